@@ -7,3 +7,6 @@ pub mod Depths
 pub mod OneOutcome
 pub mod JoinedPhases
 pub mod Reached
+mod Passing
+mod Joined
+mod Scanning

@@ -4,12 +4,15 @@ use Rattle.std.specs.List.{flat_map}
 use Rattle.sdf_lex.specs.Tokens.{Lexeme}
 use Rattle.sdf_meaning.specs.FirstFaults.{bad_number, crossing}
 use Rattle.sdf_tree.specs.Faults.{Crossing, body_crossings, body_numbers, check_numbers, group_crossings, group_numbers, part_crossings, part_numbers}
+use Rattle.sdf_tree.specs.Files.{FileState, file_part}
 use Rattle.sdf_tree.specs.Kinds.{is_right}
 use Rattle.sdf_tree.specs.Meant as meant
 use Rattle.sdf_tree.specs.Rules.{Grammar, many, mark}
 use Rattle.sdf_tree.specs.Written as written
-use Rattle.sdf_tree.specs.Written.{Number}
+use Rattle.sdf_tree.specs.Written.{Cell, Number, a_cell}
+use Rattle.sdf_tree.specs.declared.words.Divider.{Divider}
 use Rattle.sdf_windows.specs.Movable.{Says}
+use Rattle.sdf_read.specs.Told.{Told, told_in}
 use Rattle.sdf_read.specs.Windows.{Passed, seen}
 use Rattle.sdf_read.specs.declared.window.Window.{Window}
 
@@ -69,3 +72,12 @@ pub record AreClosed {A : Type 0} (r : Grammar A) (c : Contents A) (Came : List 
   pub says : Says (many r) tokens values
   pub closes : Says (mark is_right) ending tt
   pub told : AreTold c Came values
+
+-- the tokens at hand and some more are a cell of a file, whose entries were told
+pub record IsCell (divider : Divider) (Came : List Told → Type 0) (old new : Window) : Type 0 where
+  pub cell : Cell
+  pub more : List Lexeme
+  pub passed : Passed old new more
+  pub says : (heads : Bool) → Says (file_part true (record { heads = heads; divider = divider })) (seen old ++ more) (a_cell cell)
+  pub fine : AreFine (flat_map part_numbers cell.parts) (flat_map part_crossings cell.parts)
+  pub came : Came (told_in (meant.cell_of cell))

@@ -49,15 +49,15 @@ pub fn depth_after(tokens: &[Token<'_>], depth: u64) -> Option<u64>
     requires { depth ≤ 32 }
     ensures { IfSome result (λ behind. (behind ≤ 32) × (behind ≡ depth_from depth (map lexeme tokens.now)) × AreShallow depth (map lexeme tokens.now)) }
 {
-    let mut depth = depth;
+    let mut open = depth;
     let mut rest = tokens;
     while let [token, tail @ ..] = rest {
-        let behind = depth_behind(depth, token.lexeme);
+        let behind = depth_behind(open, token.lexeme);
         if is_too_deep(behind) {
             return None;
         }
-        depth = behind;
+        open = behind;
         rest = tail;
     }
-    Some(depth)
+    Some(open)
 }

@@ -1,5 +1,5 @@
 // The next tokens of a text.
-ghost use Rattle.std.specs.Prelude.{◌≡◌, ◌<◌, Ok, IfSome, IsTrue, length, map};
+ghost use Rattle.std.specs.Prelude.{◌≡◌, ◌<◌, Ok, IfSome, IsTrue, length, map, true};
 ghost use Rattle.grammar.specs.Exact.{Exact};
 ghost use Rattle.sdf_lex.specs.Seen.{lexeme};
 ghost use Rattle.sdf_tree.specs.Kinds as kinds;
@@ -38,7 +38,7 @@ pub fn more(window: &mut Window<'_>) -> Option<bool>
     ensures { IfSome result (λ more. HasMore window.old window.new more) }
 {
     let before = window.tokens.len();
-    while window.tokens.len() == before {
+    'more: while window.tokens.len() == before {
         if window.rest.is_empty() {
             return Some(false);
         }
@@ -52,7 +52,7 @@ pub fn close(window: &mut Window<'_>) -> Option<()>
     ensures { IfSome result (λ _. Grown window.old window.new) }
 {
     let open = window.depth;
-    while window.depth >= open {
+    'more: while window.depth >= open {
         if window.rest.is_empty() {
             return None;
         }
@@ -97,7 +97,7 @@ pub fn opens(window: &mut Window<'_>) -> Option<bool>
 
 /// What was read, if it ends behind so many tokens.
 pub fn all_of<T: Drop>(read: Result<(T, usize), ReadFault>, count: usize) -> Option<T>
-    ensures { IfSome result (λ x. read.entry ≡ Ok (x, count)) }
+    ensures { IfSome result (λ x. read ≡ Ok (x, count)) }
 {
     match read {
         Ok((value, next)) => {
@@ -112,7 +112,7 @@ pub fn all_of<T: Drop>(read: Result<(T, usize), ReadFault>, count: usize) -> Opt
 }
 
 /// The part that the tokens at hand begin.
-pub fn whole<'a, P: Part<'a>>(
+pub fn whole_part<'a, P: Part<'a>>(
     alloc: Global,
     window: &mut Window<'a>,
     divider: Divider,

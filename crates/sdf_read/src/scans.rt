@@ -1,15 +1,17 @@
 // The entries of a cell, each told as soon as it is read.
-ghost use Rattle.std.specs.Prelude.{◌≡◌, [], ◌∷◌, IfSome, IsTrue};
-ghost use Rattle.sdf_tree.specs.Meant as meant;
+ghost use Rattle.std.specs.Prelude.{IfSome, IsTrue, true};
+ghost use Rattle.sdf_tree.specs.Checks as checks;
+ghost use Rattle.sdf_tree.specs.Entries as entries;
+ghost use Rattle.sdf_tree.specs.Files as files;
 ghost use Rattle.sdf_tree.specs.Seen.{view_check, view_entry, view_group, view_part};
-ghost use Rattle.sdf_read.specs.Scans.{AreFine, Scanned, ScannedUntil, Telling, checks_of, entries_of, groups_of, parts_of};
+ghost use Rattle.sdf_read.specs.Scans.{AreClosed, AreFine, IsScanned, IsTold, check_contents, entry_contents, group_contents, part_contents};
 ghost use Rattle.sdf_read.specs.Told.{told};
 
 use crate::cells::Parts;
 use crate::checks::Checks;
 use crate::entries::Entries;
 use crate::groups::Groups;
-use crate::lexing::{begins, opens, whole};
+use crate::lexing::{begins, opens, whole_part};
 use crate::visits::Visit;
 use crate::window::Window;
 use sdf_meaning::{Valued, add_group, add_part, entry_of, entry_of_check};
@@ -34,7 +36,7 @@ fn tell_entry<'a, V: Visit>(
 ) -> Option<()>
     requires { V.within visitor.old cell.now }
     ensures within { IfSome result (λ _. V.within visitor.new cell.now) }
-    ensures told { IfSome result (λ _. Telling (entries_of increment divider) (view_entry entry.entry) (λ es. V.came visitor.old visitor.new (told cell.now es))) }
+    ensures told { IfSome result (λ _. IsTold (entry_contents increment) (λ es. V.came visitor.old visitor.new (told cell.now es)) (view_entry entry.entry)) }
 {
     if !is_fine(&entry) {
         return None;
@@ -52,6 +54,8 @@ fn tell_group<'a, V: Visit>(
     visitor: &mut V,
 ) -> Option<()>
     requires { V.within visitor.old cell.now }
+    ensures within { IfSome result (λ _. V.within visitor.new cell.now) }
+    ensures told { IfSome result (λ _. IsTold group_contents (λ es. V.came visitor.old visitor.new (told cell.now es)) (view_group group.entry)) }
 {
     if !is_fine(&group) {
         return None;
@@ -69,6 +73,9 @@ fn tell_check<'a, V: Visit>(
     check: WrittenCheck<'a>,
     visitor: &mut V,
 ) -> Option<()>
+    requires { V.within visitor.old cell.now }
+    ensures within { IfSome result (λ _. V.within visitor.new cell.now) }
+    ensures told { IfSome result (λ _. IsTold check_contents (λ es. V.came visitor.old visitor.new (told cell.now es)) (view_check check.entry)) }
 {
     if !is_fine(&check) {
         return None;
@@ -82,6 +89,9 @@ fn tell_part<'a, V: Visit>(
     part: WrittenPart<'a>,
     visitor: &mut V,
 ) -> Option<()>
+    requires { V.within visitor.old cell.now }
+    ensures within { IfSome result (λ _. V.within visitor.new cell.now) }
+    ensures told { IfSome result (λ _. IsTold part_contents (λ es. V.came visitor.old visitor.new (told cell.now es)) (view_part part.entry)) }
 {
     if !is_fine(&part) {
         return None;
@@ -102,9 +112,12 @@ fn scan_entries<'a, V: Visit>(
     increment: bool,
     visitor: &mut V,
 ) -> Option<()>
+    requires { V.within visitor.old cell.now }
+    ensures within { IfSome result (λ _. V.within visitor.new cell.now) }
+    ensures scanned { IfSome result (λ _. AreClosed (entries.entry true divider) (entry_contents increment) (λ es. V.came visitor.old visitor.new (told cell.now es)) window.old window.new) }
 {
-    while opens(window)? {
-        let entry = whole::<Entries>(alloc, window, divider)?;
+    'more: while opens(window)? {
+        let entry = whole_part::<Entries>(alloc, window, divider)?;
         tell_entry(alloc, cell, increment, entry, visitor)?;
     }
     Some(())
@@ -118,6 +131,9 @@ fn scan_group<'a, V: Visit>(
     cell: &Cell<'a>,
     visitor: &mut V,
 ) -> Option<()>
+    requires { V.within visitor.old cell.now }
+    ensures within { IfSome result (λ _. V.within visitor.new cell.now) }
+    ensures scanned { IfSome result (λ _. IsScanned (entries.group true divider) group_contents (λ es. V.came visitor.old visitor.new (told cell.now es)) window.old window.new) }
 {
     if begins(&window.tokens, Keyword::Absolute) {
         return scan_entries(alloc, window, divider, cell, false, visitor);
@@ -125,7 +141,7 @@ fn scan_group<'a, V: Visit>(
     if begins(&window.tokens, Keyword::Increment) {
         return scan_entries(alloc, window, divider, cell, true, visitor);
     }
-    let group = whole::<Groups>(alloc, window, divider)?;
+    let group = whole_part::<Groups>(alloc, window, divider)?;
     tell_group(alloc, cell, group, visitor)
 }
 
@@ -137,8 +153,11 @@ fn scan_groups<'a, V: Visit>(
     cell: &Cell<'a>,
     visitor: &mut V,
 ) -> Option<()>
+    requires { V.within visitor.old cell.now }
+    ensures within { IfSome result (λ _. V.within visitor.new cell.now) }
+    ensures scanned { IfSome result (λ _. AreClosed (entries.group true divider) group_contents (λ es. V.came visitor.old visitor.new (told cell.now es)) window.old window.new) }
 {
-    while opens(window)? {
+    'more: while opens(window)? {
         scan_group(alloc, window, divider, cell, visitor)?;
     }
     Some(())
@@ -152,9 +171,12 @@ fn scan_checks<'a, V: Visit>(
     cell: &Cell<'a>,
     visitor: &mut V,
 ) -> Option<()>
+    requires { V.within visitor.old cell.now }
+    ensures within { IfSome result (λ _. V.within visitor.new cell.now) }
+    ensures scanned { IfSome result (λ _. AreClosed (checks.check divider) check_contents (λ es. V.came visitor.old visitor.new (told cell.now es)) window.old window.new) }
 {
-    while opens(window)? {
-        let check = whole::<Checks>(alloc, window, divider)?;
+    'more: while opens(window)? {
+        let check = whole_part::<Checks>(alloc, window, divider)?;
         tell_check(alloc, cell, check, visitor)?;
     }
     Some(())
@@ -168,6 +190,9 @@ fn scan_part<'a, V: Visit>(
     cell: &Cell<'a>,
     visitor: &mut V,
 ) -> Option<()>
+    requires { V.within visitor.old cell.now }
+    ensures within { IfSome result (λ _. V.within visitor.new cell.now) }
+    ensures scanned { IfSome result (λ _. IsScanned (files.part true divider) part_contents (λ es. V.came visitor.old visitor.new (told cell.now es)) window.old window.new) }
 {
     if begins(&window.tokens, Keyword::Delay) {
         return scan_groups(alloc, window, divider, cell, visitor);
@@ -175,7 +200,7 @@ fn scan_part<'a, V: Visit>(
     if begins(&window.tokens, Keyword::TimingCheck) {
         return scan_checks(alloc, window, divider, cell, visitor);
     }
-    let part = whole::<Parts>(alloc, window, divider)?;
+    let part = whole_part::<Parts>(alloc, window, divider)?;
     tell_part(alloc, cell, part, visitor)
 }
 
@@ -187,8 +212,11 @@ pub fn scan_parts<'a, V: Visit>(
     cell: &Cell<'a>,
     visitor: &mut V,
 ) -> Option<()>
+    requires { V.within visitor.old cell.now }
+    ensures within { IfSome result (λ _. V.within visitor.new cell.now) }
+    ensures scanned { IfSome result (λ _. AreClosed (files.part true divider) part_contents (λ es. V.came visitor.old visitor.new (told cell.now es)) window.old window.new) }
 {
-    while opens(window)? {
+    'more: while opens(window)? {
         scan_part(alloc, window, divider, cell, visitor)?;
     }
     Some(())
