@@ -10,3 +10,4 @@ pub mod Reached
 mod Passing
 mod Joined
 mod Scanning
+mod Filing

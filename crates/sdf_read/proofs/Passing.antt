@@ -15,11 +15,11 @@ use Rattle.sdf_read.specs.declared.window.Window.{Window}
 
 -- ---- depths
 
-depth_more : (d : ℕ) (ts us : List Lexeme) → depth_from d (ts ++ us) ≡ depth_from (depth_from d ts) us
+pub depth_more : (d : ℕ) (ts us : List Lexeme) → depth_from d (ts ++ us) ≡ depth_from (depth_from d ts) us
 depth_more d [] us = refl
 depth_more d (t ∷ ts) us = depth_more (depth_behind d t.meaning) ts us
 
-shallow_more : (d : ℕ) (ts us : List Lexeme) → AreShallow d ts → AreShallow (depth_from d ts) us → AreShallow d (ts ++ us)
+pub shallow_more : (d : ℕ) (ts us : List Lexeme) → AreShallow d ts → AreShallow (depth_from d ts) us → AreShallow d (ts ++ us)
 shallow_more d [] us p q = q
 shallow_more d (t ∷ ts) us p q = (p.0, shallow_more (depth_behind d t.meaning) ts us p.1 q)
 
@@ -88,7 +88,7 @@ stepped a b size count ts new m bt at rest some n e depth shallow = record { gro
 
 -- ---- what is opened
 
-from_none : (a c b : Window) → Passed a c [] → seen c ≡ [] → Grown c b → Passed a b (seen b)
+pub from_none : (a c b : Window) → Passed a c [] → seen c ≡ [] → Grown c b → Passed a b (seen b)
 from_none a c b p none g = subst (Passed a b) (sym (g.added ∙ ap (λ (xs : List Lexeme). xs ++ g.more) none)) (passed_on a c b [] g.more p g.passed)
 
 pub closing_opened : (a c b : Window) → Passed a c [] → seen c ≡ [] → HasMore c b true → Says (mark is_right) (seen b) tt → Opened a b false

@@ -86,3 +86,11 @@ pub record IsTellable (text : List ℕ) (unit : ℤ) (divider : Divider) (Came :
   pub unit_is : (sdf_of parts).unit ≡ unit
   pub divider_is : (sdf_of parts).divider ≡ divider
   pub came : Came (flat_map told_in (sdf_of parts).cells)
+
+-- and behind some of its cells: their entries were told, and the next tokens are at hand
+pub record IsAmid (text : List ℕ) (unit : ℤ) (divider : Divider) (Came : List Told → Type 0) (w : Window) (more : Bool) : Type 0 where
+  pub parts : List FilePart
+  pub heads : Bool
+  pub read : AreParts text (seen w) w heads unit divider parts
+  pub closes : more ≡ false → Says (mark is_right) (seen w) tt
+  pub came : Came (flat_map told_in (sdf_of parts).cells)
