@@ -1,4 +1,12 @@
 // A file whose entries are applied as soon as they are read.
+ghost use Rattle.std.specs.Prelude.{◌≡◌, ℕ, IfNone, IfOk, IfSome, List};
+ghost use Rattle.annotation_places.specs.Places.{ArePlaces};
+ghost use Rattle.annotation_spots.specs.Rows.{AreRows};
+ghost use Rattle.sg_circuit.specs.Seen.{circuit_seen};
+ghost use Rattle.sdf_read.specs.Streams.{IsOpened};
+ghost use Rattle.sdf_annotate.specs.Seen.{AreCounted};
+ghost use Rattle.sdf_annotate.specs.Streamed.{AreAfterText, IsAnnotatedBy, IsFirst};
+ghost use Rattle.sdf_annotate.specs.Told.{told_seen};
 use crate::entries::annotate_entries;
 use crate::search::Search;
 use crate::tasks::Task;
@@ -24,6 +32,21 @@ struct Annotator<'t, 'p, 's> {
 }
 
 impl Visit for Annotator<'_, '_, '_> {
+    ghost use Rattle.sdf_annotate.specs.Streamed.{HasApplied, IsAnnotator, IsAnnotatorIn};
+    ghost use Rattle.sdf_annotate.proofs.StreamedSteps.{applied-more, applied-none};
+
+    ghost ready = { λ a. IsAnnotator a };
+
+    ghost within = { λ a cell. IsAnnotatorIn a cell };
+
+    ghost came = { λ a b ts. HasApplied a b ts };
+
+    ghost leaves = { λ a cell h. h.annotator };
+
+    ghost came_none = { λ a h. applied-none a h };
+
+    ghost came_more = { λ a b c xs ys p q. applied-more a b c xs ys p q };
+
     fn cell(&mut self, alloc: Global, cell: &Cell<'_>) -> Option<()> {
         match self.search.enter(alloc, &self.task, cell) {
             Ok(_) => Some(()),
@@ -51,6 +74,9 @@ fn annotator<'t, 'p, 's>(
     alloc: Global,
     task: Task<'t, 'p, 's>,
 ) -> Result<Annotator<'t, 'p, 's>, NoMemory>
+    requires places { ArePlaces task.places.now }
+    requires signals { AreCounted task }
+    ensures { IfOk result (λ a. IsFirst task a) }
 {
     let places = task.places;
     let search = Search::new(alloc, &task)?;
@@ -76,6 +102,8 @@ fn values_after(
     stream: Stream<'_>,
     corner: Corner,
 ) -> Option<NewValues>
+    requires { ArePlaces places.now }
+    ensures { (text : List ℕ) → IsOpened text stream.entry → IfSome result (AreAfterText (circuit_seen places.now.parts.now) text corner) }
 {
     let Ok(signals) = signal_counts(alloc, places.parts) else {
         return None;
@@ -106,6 +134,8 @@ fn rows_and_values(
     text: &[u8],
     corner: Corner,
 ) -> Option<(Vec<Spot>, NewValues)>
+    ensures rows { IfSome result (λ r. AreRows circuit.now r.0.items) }
+    ensures after { IfSome result (λ r. AreAfterText circuit.now text.now corner r.1) }
 {
     let stream = open_sdf(alloc, text)?;
     let Ok(places) = Places::of(alloc, circuit) else {
@@ -123,6 +153,9 @@ pub fn annotate_text(
     text: &[u8],
     corner: Corner,
 ) -> Option<Vec<Unmatched>>
+    // The circuit is annotated with what the text means.
+    ensures annotated { IfSome result (λ us. IsAnnotatedBy text.now circuit.old corner circuit.new (told_seen us.items)) }
+    ensures kept { IfNone result (circuit.new ≡ circuit.old) }
 {
     let (rows, values) = rows_and_values(alloc, circuit, text, corner)?;
     let Ok(adjustment) = adjust(alloc, circuit, &values.limits) else {

@@ -8,6 +8,7 @@ pub mod OneOutcome
 pub mod JoinedPhases
 pub mod Reached
 mod Passing
+mod Wholes
 mod Joined
 mod Scanning
 mod Filing
