@@ -25,8 +25,9 @@ use Rattle.sdf_windows.proofs.Building as moves
 use Rattle.sdf_windows.proofs.Files.{file_part_moves}
 use Rattle.sdf_windows.proofs.Joining.{joined_before, joined_behind, mark_says, more_by}
 use Rattle.sdf_read.specs.Depth.{AreShallow, depth_from}
-use Rattle.sdf_read.specs.Outcomes.{meaning_of}
+use Rattle.sdf_read.specs.Outcomes.{is_spelled, meaning_of}
 use Rattle.sdf_read.specs.Phases.{AreRead}
+use Rattle.sdf_read.specs.Reads.{Reads, has_tokens}
 use Rattle.sdf_read.specs.Scans.{AreFine, IsCell}
 use Rattle.sdf_read.specs.Streams.{AreParts, EndsText, IsAmid, IsBegun, IsBehind, IsHead, IsTellable, with_head}
 use Rattle.sdf_read.specs.Told.{Told, told_in}
@@ -208,3 +209,7 @@ module _ (text : List ℕ) where
   }
     where
       p = r.read
+
+-- what such parts mean is what the file is
+pub reads_parts : (text : List ℕ) (ps : List FilePart) → AreRead text ps → meaning_of ps ≡ Ok (sdf_of ps) → Reads text (Ok (sdf_of ps))
+reads_parts text ps (ts, (l, s)) m = has_tokens ts l (is_spelled s.0 ps s.1 (sym m))

@@ -7,8 +7,9 @@ pub mod Depths
 pub mod OneOutcome
 pub mod JoinedPhases
 pub mod Reached
-mod Passing
-mod Wholes
+pub mod Passing
+pub mod Wholes
 mod Joined
 mod Scanning
+mod Cells
 mod Filing

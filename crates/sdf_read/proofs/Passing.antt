@@ -1,6 +1,6 @@
 -- A text is read on token by token.
 use Rattle.std.proofs.Common.{◌≡◌, ◌∙◌, ℕ, zero, suc, ◌+◌, ◌<◌, ◌≤◌, Bool, true, false, List, [], ◌∷◌, ◌++◌, length, map, drop, take, Some, refl, sym, ap, subst, arith}
-use Rattle.std.specs.Prelude.{slice_get}
+use Rattle.std.specs.Prelude.{not, slice_get}
 use Rattle.std.proofs.lemmas.List.{append-nil, append_assoc, drop_at, drop-map, length-append, length-map}
 use Rattle.sdf_lex.specs.Lexes.{IsLexedBy, LexesFrom, Outcome}
 use Rattle.sdf_lex.specs.Seen.{lexeme}
@@ -68,7 +68,7 @@ stepped a b size count ts new m bt at rest some n e depth shallow = record { gro
   where
     added : map lexeme new ≡ m.more
     added =
-        let size_is : length (seen a) ≡ count = length-map lexeme a.tokens.items ∙ sym n in
+        let size_is : length (seen a) ≡ count = length-map a.tokens.items lexeme ∙ sym n in
         ap (map lexeme) e ∙ (sym (drop-map lexeme count ts) ∙ (ap (drop count) m.added ∙ drop_at (seen a) m.more count size_is))
 
     nearer : length b.rest.now < length a.rest.now
@@ -91,12 +91,15 @@ stepped a b size count ts new m bt at rest some n e depth shallow = record { gro
 pub from_none : (a c b : Window) → Passed a c [] → seen c ≡ [] → Grown c b → Passed a b (seen b)
 from_none a c b p none g = subst (Passed a b) (sym (g.added ∙ ap (λ (xs : List Lexeme). xs ++ g.more) none)) (passed_on a c b [] g.more p g.passed)
 
-pub closing_opened : (a c b : Window) → Passed a c [] → seen c ≡ [] → HasMore c b true → Says (mark is_right) (seen b) tt → Opened a b false
-closing_opened a c b p none h says = record { passed = from_none a c b p none h.grown; some = λ e. absurd cc; closes = λ e. says }
+pub closing_opened : (a c b : Window) (m : Bool) → Passed a c [] → seen c ≡ [] → HasMore c b m → not m ≡ false → Says (mark is_right) (seen b) tt → Opened a b false
+closing_opened a c b false p none h i says = absurd cc
+closing_opened a c b true p none h i says = record { passed = from_none a c b p none h.grown; some = omega (arith, p.nearer, h.some refl); closes = λ e. says }
 
-pub more_opened : (a c b d : Window) → Passed a c [] → seen c ≡ [] → HasMore c b true → HasMore b d true → Opened a d true
-more_opened a c b d p none h k = record {
+pub more_opened : (a c b d : Window) (m n : Bool) → Passed a c [] → seen c ≡ [] → HasMore c b m → not m ≡ false → HasMore b d n → not n ≡ false → Opened a d true
+more_opened a c b d true true p none h i k j = record {
   passed = from_none a c d p none (grown_on c b d h.grown k.grown);
-  some = λ e. omega (arith, p.nearer, h.some refl, k.some refl);
+  some = omega (arith, p.nearer, h.some refl, k.some refl);
   closes = λ e. absurd cc;
 }
+more_opened a c b d false n p none h i k j = absurd cc
+more_opened a c b d true false p none h i k j = absurd cc

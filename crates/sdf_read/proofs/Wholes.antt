@@ -43,7 +43,7 @@ module _ {X A : Type 0} (r : Grammar A) (er : IsExact r) (view : X → A) (resul
   }
     where
       size : n ≡ length (map lexeme lent)
-      size = e ∙ (sym (length-map lexeme b.tokens.items) ∙ ap (λ (ts : List Token). length (map lexeme ts)) (sym l))
+      size = e ∙ (sym (length-map b.tokens.items lexeme) ∙ ap (λ (ts : List Token). length (map lexeme ts)) (sym l))
 
   -- the next tokens
   pub next_is : (a b d : Window) (lent : List Token) (x : X) (n : ℕ) → Opened a b true → Grown b d → lent ≡ d.tokens.items → Gives (λ x. (view x.0, x.1)) result (r.read (map lexeme lent) 0) → result ≡ Ok (x, n) → n ≡ length d.tokens.items → IsNext r a d (view x)

@@ -42,7 +42,7 @@ pub record HasMore (old new : Window) (more : Bool) : Type 0 where
 -- the tokens at hand are the next; where no more comes they are a parenthesis that closes
 pub record Opened (old new : Window) (more : Bool) : Type 0 where
   pub passed : Passed old new (seen new)
-  pub some : more ≡ true → length new.rest.now < length old.rest.now
+  pub some : length new.rest.now < length old.rest.now
   pub closes : more ≡ false → Says (mark is_right) (seen new) tt
 
 -- a parenthesis that opens, and a word

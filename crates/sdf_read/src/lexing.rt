@@ -62,10 +62,14 @@ pub fn close(window: &mut Window<'_>) -> Option<()>
 }
 
 /// Whether the tokens are an opening parenthesis and a word.
+#[tactic(auto, using(crate::proofs::Wholes::two_begin))]
 pub fn begins(tokens: &[Token<'_>], word: Keyword) -> bool
     ensures { IsTrue result → Begins word (map lexeme tokens.now) }
 {
-    tokens.len() == 2 && is_left(tokens, 0) && is_word(tokens, 1, word)
+    if tokens.len() != 2 || !is_left(tokens, 0) {
+        return false;
+    }
+    is_word(tokens, 1, word)
 }
 
 // Whether the tokens are a closing parenthesis.

@@ -179,10 +179,11 @@ impl Stream<'_> {
         requires { V.ready visitor.old }
         ensures { (text : List ℕ) → IsOpened text self.entry → IfSome result (λ _. IsTellable text self.entry.unit.power self.entry.divider (V.came visitor.old visitor.new)) }
     {
-        let mut window = self.window;
+        let divider = self.divider;
         let mut more = self.more;
+        let mut window = self.window;
         'more: while more {
-            scan_cell(alloc, &mut window, self.divider, visitor)?;
+            scan_cell(alloc, &mut window, divider, visitor)?;
             more = opens(&mut window)?;
         }
         finish(&mut window)

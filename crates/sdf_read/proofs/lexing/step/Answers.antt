@@ -10,4 +10,4 @@ returns c =
     let size = c.in-Ok.size in
     let count = c.len-before.result in
     let d = c.in_ok-depth.ensures in
-    stepped a _ size count c.lex_piece.new.tokens.items _ c.in-Ok.ensures.found refl refl (take_rest a.rest.now size) c.in-Ok.ensures.size c.len-before.ensures (take_rest c.deref.result.now count ∙ ap (drop count) c.deref.ensures.value) d.1 d.2
+    stepped a _ size count c.lex_piece.new.tokens.items _ c.in-Ok.ensures.found refl refl (take_rest a.rest.now size) c.in-Ok.ensures.size (c.len-before.ensures ∙ a.tokens.ok.0) (take_rest c.deref.result.now count ∙ ap (drop count) c.deref.ensures.value) d.1 d.2
