@@ -1,15 +1,15 @@
 -- What a parenthesis, a word, parts and a parenthesis spell, one behind the other.
 use Rattle.std.proofs.Common.{◌≡◌, ℕ, Bool, true, List, [], ◌∷◌, ◌++◌, length, refl, inl, inr}
-use Rattle.grammar.specs.Rule.{◌∙∙◌, ◌▸◌, ◌◂◌}
+use Rattle.grammar.specs.Rule.{◌∙∙◌, ◌▸◌, ◌◂◌, mapped, only_if}
 use Rattle.sdf_lex.specs.Tokens.{Lexeme}
 use Rattle.sdf_tree.specs.declared.keywords.Keyword.{Keyword}
 use Rattle.sdf_tree.specs.declared.keywords.Keyword.TheVariants as keyword
 use Rattle.sdf_tree.specs.declared.words.Divider.{Divider}
 use Rattle.sdf_tree.specs.Checks.{check}
 use Rattle.sdf_tree.specs.Entries.{GroupBody, absolute_body, entry, group, group_body, group_body_parts, group_of, group_parts, increment_body}
-use Rattle.sdf_tree.specs.Files.{PartBody, cell, cell_parts, cell_type, checks_body, delays_body, file_part, file_part_parts, instance, part, part_body, part_body_parts, part_of, part_parts}
+use Rattle.sdf_tree.specs.Files.{PartBody, cell, cell_parts, cell_type, checks_body, delays_body, file_part, file_part_parts, head, instance, part, part_body, part_body_parts, part_of, part_parts}
 use Rattle.sdf_tree.specs.Kinds.{is_left, is_right, is_word, kind_of}
-use Rattle.sdf_tree.specs.Rules.{Grammar, many, mark}
+use Rattle.sdf_tree.specs.Rules.{Grammar, either, many, mark}
 use Rattle.sdf_tree.specs.Written.{Cell, Check, Entry, Group, Instance, Part, a_cell, a_head, absolute, checks, delays, increment}
 use Rattle.sdf_tree.proofs.Building as exact
 use Rattle.sdf_tree.proofs.EntriesExact.{group_body-exact}
@@ -37,7 +37,7 @@ module _ (divider : Divider) (t u : Lexeme) (ts rs : List Lexeme) (left : is_lef
   body_group : (b : GroupBody) → Says (group_body true divider) (u ∷ ts) b → Says (group true divider) (t ∷ u ∷ (ts ++ rs)) (group_of t.place b)
   unfolding group_parts
   body_group b s =
-      ((t.place, b), refl, placed_says (λ (t : Lexeme). t.place) _ t (u ∷ (ts ++ rs)) b (inside_says (group_body-exact true divider) (group_body_moves true divider) t (u ∷ ts) rs b left s right))
+      ((t.place, b), refl, placed_says kind_of (λ (t : Lexeme). t.place) _ t (u ∷ (ts ++ rs)) b (inside_says (group_body-exact true divider) (group_body_moves true divider) t (u ∷ ts) rs b left s right))
 
   absolute_body_says : (xs : List Entry) → is_word keyword.Absolute (kind_of u) ≡ true → Says (many (entry true divider)) ts xs → Says (group_body true divider) (u ∷ ts) (absolute_body xs)
   unfolding group_body_parts
@@ -58,7 +58,7 @@ module _ (divider : Divider) (t u : Lexeme) (ts rs : List Lexeme) (left : is_lef
   body_part : (b : PartBody) → Says (part_body true divider) (u ∷ ts) b → Says (part true divider) (t ∷ u ∷ (ts ++ rs)) (part_of t.place b)
   unfolding part_parts
   body_part b s =
-      ((t.place, b), refl, placed_says (λ (t : Lexeme). t.place) _ t (u ∷ (ts ++ rs)) b (inside_says (part_body-exact true divider) (part_body_moves true divider) t (u ∷ ts) rs b left s right))
+      ((t.place, b), refl, placed_says kind_of (λ (t : Lexeme). t.place) _ t (u ∷ (ts ++ rs)) b (inside_says (part_body-exact true divider) (part_body_moves true divider) t (u ∷ ts) rs b left s right))
 
   delays_body_says : (xs : List Group) → is_word keyword.Delay (kind_of u) ≡ true → Says (many (group true divider)) ts xs → Says (part_body true divider) (u ∷ ts) (delays_body xs)
   unfolding part_body_parts
@@ -82,7 +82,7 @@ module _ (heads : Bool) (divider : Divider) (t : Lexeme) (ts rs : List Lexeme) (
   unfolding file_part_parts
   cell_part_says c s =
       let there = in_front kind_of (cell-exact true divider) ts rs c s in
-      let inside = ((a_cell c, tt), refl, (length ts, inr (c, refl, there), at_end (moves.the_mark is_right) ts rs tt right)) in
+      let inside : Says (either (mapped a_head (only_if heads head)) (mapped a_cell (cell true divider)) ◂ mark is_right) (ts ++ rs) (a_cell c) = ((a_cell c, tt), refl, (length ts, inr (c, refl, there), at_end (moves.the_mark is_right) ts rs tt right)) in
       joined_behind kind_of (exact.the_mark is_left) (moves.before (moves.or (moves.made a_head (moves.where_so heads head_moves)) (moves.made a_cell (cell_moves true divider))) (moves.the_mark is_right)) (t ∷ []) (ts ++ rs) tt (a_cell c) (mark_says kind_of is_left t left) inside
 
 -- a cell from its parts

@@ -11,5 +11,5 @@ pub mod Passing
 pub mod Wholes
 mod Joined
 mod Scanning
-mod Cells
+mod CellParts
 mod Filing

@@ -1,7 +1,7 @@
 -- A text is read on token by token.
-use Rattle.std.proofs.Common.{◌≡◌, ◌∙◌, ℕ, zero, suc, ◌+◌, ◌<◌, ◌≤◌, Bool, true, false, List, [], ◌∷◌, ◌++◌, length, map, drop, take, Some, refl, sym, ap, subst, arith}
-use Rattle.std.specs.Prelude.{not, slice_get}
-use Rattle.std.proofs.lemmas.List.{append-nil, append_assoc, drop_at, drop-map, length-append, length-map}
+use Rattle.std.proofs.Common.{◌≡◌, ◌∙◌, ℕ, zero, suc, ◌+◌, ◌-◌, ◌<◌, ◌≤◌, Bool, true, false, List, [], ◌∷◌, ◌++◌, length, map, drop, take, Some, refl, sym, ap, subst, arith}
+use Rattle.std.specs.Prelude.{slice_get}
+use Rattle.std.proofs.lemmas.List.{append-nil, append_assoc, drop_at, drop-map, length-drop, length-map}
 use Rattle.sdf_lex.specs.Lexes.{IsLexedBy, LexesFrom, Outcome}
 use Rattle.sdf_lex.specs.Seen.{lexeme}
 use Rattle.sdf_lex.specs.Tokens.{Lexeme}
@@ -72,7 +72,7 @@ stepped a b size count ts new m bt at rest some n e depth shallow = record { gro
         ap (map lexeme) e ∙ (sym (drop-map lexeme count ts) ∙ (ap (drop count) m.added ∙ drop_at (seen a) m.more count size_is))
 
     nearer : length b.rest.now < length a.rest.now
-    nearer = let e : length b.rest.now ≡ length (drop size a.rest.now) = ap length rest in omega (arith, e, some.0, some.1)
+    nearer = let e : length b.rest.now ≡ length a.rest.now - size = ap length rest ∙ length-drop size a.rest.now in omega (arith, e, some.0, some.1)
 
     grown : Grown a b
     grown = record {
@@ -91,11 +91,11 @@ stepped a b size count ts new m bt at rest some n e depth shallow = record { gro
 pub from_none : (a c b : Window) → Passed a c [] → seen c ≡ [] → Grown c b → Passed a b (seen b)
 from_none a c b p none g = subst (Passed a b) (sym (g.added ∙ ap (λ (xs : List Lexeme). xs ++ g.more) none)) (passed_on a c b [] g.more p g.passed)
 
-pub closing_opened : (a c b : Window) (m : Bool) → Passed a c [] → seen c ≡ [] → HasMore c b m → not m ≡ false → Says (mark is_right) (seen b) tt → Opened a b false
+pub closing_opened : (a c b : Window) (m : Bool) → Passed a c [] → seen c ≡ [] → HasMore c b m → m ≡ true → Says (mark is_right) (seen b) tt → Opened a b false
 closing_opened a c b false p none h i says = absurd cc
 closing_opened a c b true p none h i says = record { passed = from_none a c b p none h.grown; some = omega (arith, p.nearer, h.some refl); closes = λ e. says }
 
-pub more_opened : (a c b d : Window) (m n : Bool) → Passed a c [] → seen c ≡ [] → HasMore c b m → not m ≡ false → HasMore b d n → not n ≡ false → Opened a d true
+pub more_opened : (a c b d : Window) (m n : Bool) → Passed a c [] → seen c ≡ [] → HasMore c b m → m ≡ true → HasMore b d n → n ≡ true → Opened a d true
 more_opened a c b d true true p none h i k j = record {
   passed = from_none a c d p none (grown_on c b d h.grown k.grown);
   some = omega (arith, p.nearer, h.some refl, k.some refl);

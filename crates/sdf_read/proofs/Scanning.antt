@@ -57,8 +57,8 @@ module _ {A : Type 0} (r : Grammar A) (c : Contents A) where
   }
 
   pub more_scanned : (Came One All : List meant.Entry → Type 0) (a b m d : Window) → IsExact (many r) → Moves r → ((es fs : List meant.Entry) → Came es → One fs → All (es ++ fs))
-      → AreScanned r c Came a b → Opened b m true → IsScanned r c One m d → AreScanned r c All a d
-  more_scanned Came One All a b m d em mr more p o q = record {
+      → AreScanned r c Came a b → {t : Bool} → Opened b m t → t ≡ true → IsScanned r c One m d → AreScanned r c All a d
+  more_scanned Came One All a b m d em mr more p o t q = record {
     values = p.values ++ q.value ∷ [];
     tokens = p.tokens ++ (seen m ++ q.more);
     passed = passed_on a b d p.tokens (seen m ++ q.more) p.passed (passed_on b m d (seen m) q.more o.passed q.passed);
@@ -66,13 +66,13 @@ module _ {A : Type 0} (r : Grammar A) (c : Contents A) where
     told = told_more Came One All p.values q.value more p.told q.told;
   }
 
-  pub all_scanned : (Came : List meant.Entry → Type 0) (a b m : Window) → AreScanned r c Came a b → Opened b m false → AreClosed r c Came a m
-  all_scanned Came a b m p o = record {
+  pub all_scanned : (Came : List meant.Entry → Type 0) (a b m : Window) → AreScanned r c Came a b → {t : Bool} → Opened b m t → t ≡ false → AreClosed r c Came a m
+  all_scanned Came a b m p o f = record {
     values = p.values;
     tokens = p.tokens;
     ending = seen m;
     passed = passed_on a b m p.tokens (seen m) p.passed o.passed;
     says = p.says;
-    closes = o.closes refl;
+    closes = o.closes f;
     told = p.told;
   }

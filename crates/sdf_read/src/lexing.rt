@@ -62,7 +62,6 @@ pub fn close(window: &mut Window<'_>) -> Option<()>
 }
 
 /// Whether the tokens are an opening parenthesis and a word.
-#[tactic(auto, using(crate::proofs::Wholes::two_begin))]
 pub fn begins(tokens: &[Token<'_>], word: Keyword) -> bool
     ensures { IsTrue result → Begins word (map lexeme tokens.now) }
 {

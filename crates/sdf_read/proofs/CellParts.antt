@@ -25,10 +25,6 @@ singles : {A B : Type 0} (f : A → B) (xs : List A) → flat_map (λ x. f x ∷
 singles f [] = refl
 singles f (x ∷ xs) = ap (λ ys. f x ∷ ys) (singles f xs)
 
-nothing_of : {A B : Type 0} (xs : List A) → flat_map {A = A} {B = B} (λ x. []) xs ≡ []
-nothing_of [] = refl
-nothing_of (x ∷ xs) = nothing_of xs
-
 -- told one list after another
 pub told_more : {S : Type 0} (came : S → S → List Told → Type 0) → ((a b c : S) (xs ys : List Told) → came a b xs → came b c ys → came a c (xs ++ ys))
     → (cell : code_cell.Cell) (a b c : S) (es fs : List meant.Entry) → came a b (told cell es) → came b c (told cell fs) → came a c (told cell (es ++ fs))
