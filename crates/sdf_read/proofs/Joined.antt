@@ -37,7 +37,7 @@ module _ (divider : Divider) (t u : Lexeme) (ts rs : List Lexeme) (left : is_lef
   body_group : (b : GroupBody) → Says (group_body true divider) (u ∷ ts) b → Says (group true divider) (t ∷ u ∷ (ts ++ rs)) (group_of t.place b)
   unfolding group_parts
   body_group b s =
-      ((t.place, b), refl, placed_says kind_of (λ (t : Lexeme). t.place) _ t (u ∷ (ts ++ rs)) b (inside_says (group_body-exact true divider) (group_body_moves true divider) t (u ∷ ts) rs b left s right))
+      ((t.place, b), refl, placed_says kind_of (λ (t : Lexeme). t.place) (mark is_left ▸ (group_body true divider ◂ mark is_right)) t (u ∷ (ts ++ rs)) b (inside_says (group_body-exact true divider) (group_body_moves true divider) t (u ∷ ts) rs b left s right))
 
   absolute_body_says : (xs : List Entry) → is_word keyword.Absolute (kind_of u) ≡ true → Says (many (entry true divider)) ts xs → Says (group_body true divider) (u ∷ ts) (absolute_body xs)
   unfolding group_body_parts
@@ -58,7 +58,7 @@ module _ (divider : Divider) (t u : Lexeme) (ts rs : List Lexeme) (left : is_lef
   body_part : (b : PartBody) → Says (part_body true divider) (u ∷ ts) b → Says (part true divider) (t ∷ u ∷ (ts ++ rs)) (part_of t.place b)
   unfolding part_parts
   body_part b s =
-      ((t.place, b), refl, placed_says kind_of (λ (t : Lexeme). t.place) _ t (u ∷ (ts ++ rs)) b (inside_says (part_body-exact true divider) (part_body_moves true divider) t (u ∷ ts) rs b left s right))
+      ((t.place, b), refl, placed_says kind_of (λ (t : Lexeme). t.place) (mark is_left ▸ (part_body true divider ◂ mark is_right)) t (u ∷ (ts ++ rs)) b (inside_says (part_body-exact true divider) (part_body_moves true divider) t (u ∷ ts) rs b left s right))
 
   delays_body_says : (xs : List Group) → is_word keyword.Delay (kind_of u) ≡ true → Says (many (group true divider)) ts xs → Says (part_body true divider) (u ∷ ts) (delays_body xs)
   unfolding part_body_parts

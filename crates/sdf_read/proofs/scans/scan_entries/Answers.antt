@@ -37,4 +37,4 @@ returns-clause-scanned g c =
     all_scanned (entry true c.args.divider) (entry_contents c.args.increment) (λ es. p.came c.args.visitor.now c.more.visitor (told c.args.cell.now es)) c.args.window.now c.more.window c.opens.new.window c.more.invariant.scanned c.in_ok-opens.ensures c.if-branch.false
 
 pub whole_part-requires : goal.whole_part-requires
-whole_part-requires g c = λ form. entry_part form.limited form.divider
+whole_part-requires g c = λ _ form. entry_part form.limited form.divider

@@ -19,4 +19,4 @@ returns-then-begins-2-clause-scanned g c =
     (λ _ s. checks_scanned c.args.divider (λ es. p.came c.args.visitor.now c.scan_checks.new.visitor (told c.args.cell.now es)) c.args.window.now c.scan_checks.new.window (c.begins-2.ensures c.if-begins-2.true) s)
 
 pub whole_part-requires : goal.whole_part-requires
-whole_part-requires g c = λ form. cell_part form.limited form.divider
+whole_part-requires g c = λ _ form. cell_part form.limited form.divider
