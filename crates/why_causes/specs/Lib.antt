@@ -1,0 +1,7 @@
+-- The modules of this folder.
+pub mod Waveform
+pub mod Candidates
+pub mod Causes
+pub mod Best
+pub mod Chains
+pub mod Traces

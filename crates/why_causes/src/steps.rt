@@ -1,0 +1,138 @@
+// Which input of a sequential primitive made the step to a new state.
+ghost use Rattle.std.specs.Prelude.{ℕ, ◌≡◌, ◌<◌, ◌+◌, ◌^◌, All, IfOk, OnOk, List, Option, length, map, take, drop, suc, ◌++◌, slice_index_or};
+ghost use Rattle.std.specs.List.{enumerate_from};
+ghost use Rattle.why_causes.specs.Waveform.{value_before};
+ghost use Rattle.why_causes.specs.Candidates.{last_of_each, latest};
+ghost use Rattle.why_causes.specs.Causes.{is_step as is_step_of, last_step as last_step_of, state_when_taken};
+
+use crate::changes::Candidate;
+use crate::inputs::{last_of, latest_of_each};
+use crate::traces::Trace;
+use sg_circuit::NetId;
+use sg_logic::Value;
+use sg_text::NoMemory;
+use std::alloc::Global;
+use udp_rows::UdpRows;
+
+// The values of nets before a time.
+fn values_before(
+    alloc: Global,
+    trace: &Trace<'_>,
+    nets: &[NetId],
+    time: u64,
+) -> Result<Vec<Value>, NoMemory>
+    requires { All (λ n. n < length trace.now.first) nets.now }
+    ensures { IfOk result (λ values. values.items ≡ map (λ n. value_before trace.now n time) nets.now) }
+{
+    let mut values = Vec::new(alloc);
+    for net in nets {
+        values.push(trace.value_before(*net, time))?;
+    }
+    Ok(values)
+}
+
+// Whether the state is another once an input, too, has its new value, which it then has.
+fn is_step(rows: &UdpRows, old: &[Value], new: &[Value], taken: &mut [Value], state: Value, input: usize) -> bool
+    requires old { length old.now ≡ rows.now.inputs }
+    requires new { length new.now ≡ rows.now.inputs }
+    requires input { input < rows.now.inputs }
+    requires taken { taken.old ≡ take input new.now ++ drop input old.now }
+    ensures step { result ≡ is_step_of rows.now old.now new.now state input }
+    ensures taken { taken.new ≡ take (suc input) new.now ++ drop (suc input) old.now }
+{
+    let before = rows.next(old, taken, state);
+    taken[input] = new[input];
+    rows.next(old, taken, state) != before
+}
+
+// Of each input whether it is a step.
+fn steps_of(
+    alloc: Global,
+    rows: &UdpRows,
+    old: &[Value],
+    new: &[Value],
+    state: Value,
+) -> Result<Vec<bool>, NoMemory>
+    requires old { length old.now ≡ rows.now.inputs }
+    requires new { length new.now ≡ rows.now.inputs }
+    ensures { IfOk result (λ steps. AreSteps rows.now old.now new.now state steps.items) }
+{
+    let mut taken = Vec::from_slice(alloc, old)?;
+    let mut steps = Vec::new(alloc);
+    for input in 0..old.len() {
+        steps.push(is_step(rows, old, new, &mut taken, state, input))?;
+    }
+    Ok(steps)
+}
+
+// The last event of an input before a limit, if it is at a time.
+fn last_at(
+    trace: &Trace<'_>,
+    limit: u64,
+    time: u64,
+    input: u32,
+    net: NetId,
+) -> Option<Candidate>
+    requires { net < length trace.now.first }
+    ensures { result ≡ option_and_then (kept_at time) (last_of_input trace.now limit (input, net)) }
+{
+    let last = last_of(trace, limit, input, net)?;
+    if last.event.time == time {
+        Some(last)
+    } else {
+        None
+    }
+}
+
+// A candidate, where a test holds.
+fn kept_if(test: bool, candidate: Option<Candidate>) -> Option<Candidate>
+    ensures { result ≡ (if test then candidate else None) }
+{
+    if test { candidate } else { None }
+}
+
+// Of the inputs whose last event before a limit is at a time the last that is a step, else the last.
+fn last_of_steps(
+    trace: &Trace<'_>,
+    inputs: &[NetId],
+    steps: &[bool],
+    limit: u64,
+    time: u64,
+) -> Option<Candidate>
+    requires nets { All (λ n. n < length trace.now.first) inputs.now }
+    requires few { length inputs.now < 2 ^ 32 }
+    requires steps { length steps.now ≡ length inputs.now }
+{
+    let mut last = None;
+    let mut stepped = None;
+    for (input, net) in inputs.iter().enumerate() {
+        let found = last_at(trace, limit, time, input as u32, *net);
+        last = found.or(last);
+        stepped = kept_if(steps[input], found).or(stepped);
+    }
+    stepped.or(last)
+}
+
+/// Of the inputs of a sequential primitive that changed last before a limit, taken in order, the last that changed the state; where
+/// none did, the last.
+pub(crate) fn last_step(
+    alloc: Global,
+    trace: &Trace<'_>,
+    rows: &UdpRows,
+    inputs: &[NetId],
+    state: Value,
+    limit: u64,
+) -> Result<Option<Candidate>, NoMemory>
+    requires nets { All (λ n. n < length trace.now.first) inputs.now }
+    requires inputs { length inputs.now ≡ rows.now.inputs }
+    ensures { IfOk result (λ found. found ≡ last_step_of trace.now rows.now inputs.now state (latest (last_of_each trace.now limit (enumerate_from 0 inputs.now)))) }
+{
+    let Some(first) = latest_of_each(trace, limit, inputs) else {
+        return Ok(None);
+    };
+    let time = first.event.time;
+    let old = values_before(alloc, trace, inputs, time)?;
+    let new = values_before(alloc, trace, inputs, time + 1)?;
+    let steps = steps_of(alloc, rows, &old, &new, state)?;
+    Ok(last_of_steps(trace, inputs, &steps, limit, time))
+}
