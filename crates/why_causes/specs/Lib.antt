@@ -4,4 +4,6 @@ pub mod Candidates
 pub mod Causes
 pub mod Best
 pub mod Chains
+pub mod Fitting
+pub mod Steps
 pub mod Traces

@@ -1,8 +1,10 @@
 // The cause of a change: four rules look for one, and the first that finds one decides.
-ghost use Rattle.std.specs.Prelude.{ℕ, ◌≡◌, ◌<◌, ◌^◌, All, IfOk, Option, length, map, option_copied};
+ghost use Rattle.std.specs.Prelude.{◌≡◌, ◌<◌, ◌^◌, All, IfOk, length};
+ghost use Rattle.std.specs.Option.{option_copied};
+ghost use Rattle.sg_circuit.specs.Closed.{IsClosed, NamesNets};
 ghost use Rattle.sg_circuit.specs.Seen.{circuit_seen, element_seen, kind_seen, AreIndexed, IsIndexed};
-ghost use Rattle.why_causes.specs.Causes.{by_inputs as by_inputs_of, by_path as by_path_of, by_unknown as by_unknown_of, cause as cause_of_event, cause_through as cause_through_element};
-ghost use Rattle.why_causes.specs.Primitives.{sequential};
+ghost use Rattle.why_causes.specs.Causes.{by_inputs as by_inputs_of, by_path as by_path_of, cause as cause_of_event, cause_through as cause_through_element};
+ghost use Rattle.why_causes.specs.Fitting.{sequential, Fits};
 
 use crate::changes::Change;
 use crate::delays::{delay_of, limit_of};
@@ -18,8 +20,17 @@ use std::alloc::Global;
 use udp_rows::UdpRows;
 
 // By the path that a change of an element's output came through.
-fn by_path(parts: &Parts, trace: &Trace<'_>, number: u32, kind: ElementKind, change: Change) -> Cause
-    requires closed { IsClosed (circuit_seen parts.now) }
+fn by_path(
+    parts: &Parts,
+    trace: &Trace<'_>,
+    number: u32,
+    kind: ElementKind,
+    change: Change,
+) -> Cause
+    requires indexed { IsIndexed parts.now kind }
+    requires names { NamesNets (length trace.now.first) (kind_seen parts.now kind) }
+    requires time { change.time < 2 ^ 60 }
+    ensures { result ≡ by_path_of trace.now number (kind_seen parts.now kind) change }
 {
     match kind {
         ElementKind::Path { paths, .. } => {
@@ -33,6 +44,8 @@ fn by_path(parts: &Parts, trace: &Trace<'_>, number: u32, kind: ElementKind, cha
 
 // The rows of a sequential primitive, if a kind is one.
 fn sequential_rows(parts: &Parts, kind: ElementKind) -> Option<&UdpRows>
+    requires { IsIndexed parts.now kind }
+    ensures { option_copied result ≡ sequential (kind_seen parts.now kind) }
 {
     let ElementKind::Udp { udp, .. } = kind else {
         return None;
@@ -50,6 +63,9 @@ fn by_inputs(
     element: &Element,
     change: Change,
 ) -> Result<Cause, NoMemory>
+    requires fits { Fits (length trace.now.first) parts.now element.now }
+    requires time { change.time < 2 ^ 60 }
+    ensures { IfOk result (λ cause. cause ≡ by_inputs_of trace.now number (element_seen parts.now element.now) (kind_seen parts.now element.now.kind) change) }
 {
     let limit = limit_of(delay_of(parts, element.kind, change), change);
     let Some(rows) = sequential_rows(parts, element.kind) else {
@@ -68,6 +84,12 @@ fn cause_through(
     number: u32,
     change: Change,
 ) -> Result<Cause, NoMemory>
+    requires closed { IsClosed (circuit_seen parts.now) }
+    requires indexed { AreIndexed parts.now }
+    requires nets { length trace.now.first ≡ length parts.now.nets.items }
+    requires number { number < length parts.now.elements.items }
+    requires time { change.time < 2 ^ 60 }
+    ensures { IfOk result (λ cause. cause ≡ cause_through_element (circuit_seen parts.now) trace.now number change) }
 {
     let element = &parts.elements[number as usize];
     let unknown = by_unknown(trace, number, &element.inputs, change);

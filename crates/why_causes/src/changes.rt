@@ -13,7 +13,7 @@ pub struct Change {
 /// An event with its number, and the input whose net it is of: by the input's place in the element's order.
 #[derive(Clone, Copy)]
 pub struct Candidate {
-    pub input: u32,
+    pub input: usize,
     pub number: u32,
     pub event: Event,
 }

@@ -1,5 +1,5 @@
 // How long elements take for a change.
-ghost use Rattle.std.specs.Prelude.{◌≡◌, ◌-◌, ◌+◌, ◌≤◌, ◌<◌, ◌^◌, All};
+ghost use Rattle.std.specs.Prelude.{◌≡◌, ◌≤◌, ◌<◌, ◌^◌, All};
 ghost use Rattle.sg_circuit.specs.Seen.{kind_seen, IsIndexed};
 ghost use Rattle.sg_circuit.specs.Timings.{timing_between};
 ghost use Rattle.sg_circuit.specs.TimingsSeen.{leg_timing_seen};

@@ -1,5 +1,5 @@
 // The last events of an element's inputs.
-ghost use Rattle.std.specs.Prelude.{ℕ, ◌≡◌, ◌<◌, ◌^◌, All, List, length, slice_get};
+ghost use Rattle.std.specs.Prelude.{◌≡◌, ◌<◌, All, length, slice_get};
 ghost use Rattle.std.specs.List.{enumerate_from};
 ghost use Rattle.why_causes.specs.Candidates.{last_of as last_of_input, last_of_each, latest};
 ghost use Rattle.why_causes.specs.Best.{later_of};
@@ -9,7 +9,7 @@ use crate::traces::Trace;
 use sg_circuit::NetId;
 
 /// The last event of an input before a time.
-pub(crate) fn last_of(trace: &Trace<'_>, time: u64, input: u32, net: NetId) -> Option<Candidate>
+pub(crate) fn last_of(trace: &Trace<'_>, time: u64, input: usize, net: NetId) -> Option<Candidate>
     requires { net < length trace.now.first }
     ensures { result ≡ last_of_input trace.now time (input, net) }
 {
@@ -35,12 +35,11 @@ pub(crate) fn later(best: Option<Candidate>, other: Option<Candidate>) -> Option
 /// Of the last events of inputs before a time the latest; the first input's among equals.
 pub(crate) fn latest_of_each(trace: &Trace<'_>, time: u64, inputs: &[NetId]) -> Option<Candidate>
     requires nets { All (λ n. n < length trace.now.first) inputs.now }
-    requires few { length inputs.now < 2 ^ 32 }
     ensures { result ≡ slice_get (latest (last_of_each trace.now time (enumerate_from 0 inputs.now))) 0 }
 {
     let mut best = None;
     for (input, net) in inputs.iter().enumerate() {
-        best = later(best, last_of(trace, time, input as u32, *net));
+        best = later(best, last_of(trace, time, input, *net));
     }
     best
 }

@@ -24,7 +24,7 @@ pub struct Link {
     pub event: u32,
     pub element: u32,
     /// The input's place among those of the element; by `Rule::Path` the path's place among the element's paths.
-    pub input: u32,
+    pub input: usize,
     pub rule: Rule,
     /// So many ticks before the change.
     pub delay: u64,
@@ -38,7 +38,7 @@ pub enum Cause {
     /// An input that was x from the start.
     NeverSet {
         element: u32,
-        input: u32,
+        input: usize,
     },
     Linked(Link),
 }

@@ -1,5 +1,5 @@
 // Which specify path a change came through.
-ghost use Rattle.std.specs.Prelude.{ℕ, ◌≡◌, ◌<◌, ◌^◌, All, List, length};
+ghost use Rattle.std.specs.Prelude.{◌≡◌, ◌<◌, ◌^◌, All, List, length};
 ghost use Rattle.cond_expr.specs.Condition.{Condition};
 ghost use Rattle.sg_circuit.specs.PathsSeen.{path_seen, paths_seen};
 ghost use Rattle.why_causes.specs.Causes.{picked_path as picked_path_of, through_path as through_path_of};
@@ -15,7 +15,7 @@ fn through_path(
     trace: &Trace<'_>,
     timings: &[LegTiming],
     change: Change,
-    place: u32,
+    place: usize,
     path: &Path,
 ) -> Option<Candidate>
     requires input { path.now.input < length trace.now.first }
@@ -41,13 +41,12 @@ pub(crate) fn picked_path(
 ) -> Option<Candidate>
     requires inputs { All (λ p. p.input < length trace.now.first) paths.now }
     requires timings { All (λ p. p.timing < length timings.now) paths.now }
-    requires few { length paths.now < 2 ^ 32 }
     requires time { change.time < 2 ^ 60 }
     ensures { (conditions : List Condition) → result ≡ picked_path_of trace.now change (paths_seen conditions timings.now paths.now) }
 {
     let mut best = None;
     for (place, path) in paths.iter().enumerate() {
-        best = later(best, through_path(trace, timings, change, place as u32, path));
+        best = later(best, through_path(trace, timings, change, place, path));
     }
     best
 }

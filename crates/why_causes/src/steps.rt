@@ -1,9 +1,10 @@
 // Which input of a sequential primitive made the step to a new state.
-ghost use Rattle.std.specs.Prelude.{ℕ, ◌≡◌, ◌<◌, ◌+◌, ◌^◌, All, IfOk, OnOk, List, Option, length, map, take, drop, suc, ◌++◌, slice_index_or};
+ghost use Rattle.std.specs.Prelude.{◌≡◌, ◌<◌, ◌++◌, All, IfOk, None, filter_map, if◌then◌else◌, length, map, take, drop, suc};
 ghost use Rattle.std.specs.List.{enumerate_from};
 ghost use Rattle.why_causes.specs.Waveform.{value_before};
 ghost use Rattle.why_causes.specs.Candidates.{last_of_each, latest};
-ghost use Rattle.why_causes.specs.Causes.{is_step as is_step_of, last_step as last_step_of, state_when_taken};
+ghost use Rattle.why_causes.specs.Causes.{is_step as is_step_of, last_step as last_step_of};
+ghost use Rattle.why_causes.specs.Steps.{AreSteps, last_at as last_of_input_at, last_by};
 
 use crate::changes::Candidate;
 use crate::inputs::{last_of, latest_of_each};
@@ -70,11 +71,11 @@ fn last_at(
     trace: &Trace<'_>,
     limit: u64,
     time: u64,
-    input: u32,
+    input: usize,
     net: NetId,
 ) -> Option<Candidate>
     requires { net < length trace.now.first }
-    ensures { result ≡ option_and_then (kept_at time) (last_of_input trace.now limit (input, net)) }
+    ensures { result ≡ last_of_input_at trace.now limit time (input, net) }
 {
     let last = last_of(trace, limit, input, net)?;
     if last.event.time == time {
@@ -100,13 +101,13 @@ fn last_of_steps(
     time: u64,
 ) -> Option<Candidate>
     requires nets { All (λ n. n < length trace.now.first) inputs.now }
-    requires few { length inputs.now < 2 ^ 32 }
     requires steps { length steps.now ≡ length inputs.now }
+    ensures { result ≡ last_by steps.now (filter_map (last_of_input_at trace.now limit time) (enumerate_from 0 inputs.now)) }
 {
     let mut last = None;
     let mut stepped = None;
     for (input, net) in inputs.iter().enumerate() {
-        let found = last_at(trace, limit, time, input as u32, *net);
+        let found = last_at(trace, limit, time, input, *net);
         last = found.or(last);
         stepped = kept_if(steps[input], found).or(stepped);
     }

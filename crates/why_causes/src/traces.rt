@@ -1,6 +1,6 @@
 // The events of a run, and for each net where its events are.
-ghost use Rattle.std.specs.Prelude.{ℕ, ◌≡◌, ◌<◌, ◌≤◌, ◌^◌, ◌++◌, IfOk, Option, OnOk, length, map};
-ghost use Rattle.std.specs.List.{enumerate_from, take_while};
+ghost use Rattle.std.specs.Prelude.{◌≡◌, ◌<◌, ◌≤◌, ◌^◌, All, IfOk, filter, length, take};
+ghost use Rattle.std.specs.List.Sorted.{IsPartitionedBy};
 ghost use Rattle.why_causes.specs.Traces.{is_earlier, pins_of};
 
 use crate::changes::Change;
@@ -28,6 +28,10 @@ fn pins_of_events(alloc: Global, events: &[Event]) -> Result<Vec<Pin>, NoMemory>
 
 // How many of a net's events come before a time.
 fn count_before(events: &[Event], row: &[u32], time: u64) -> usize
+    requires numbers { All (λ number. number < length events.now) row.now }
+    requires parted { IsPartitionedBy (is_earlier events.now time) row.now }
+    ensures within { result ≤ length row.now }
+    ensures count { take result row.now ≡ filter (is_earlier events.now time) row.now }
 {
     row.partition_point(|number| events[*number as usize].time < time)
 }

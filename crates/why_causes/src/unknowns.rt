@@ -1,10 +1,10 @@
 // Where an x comes from: inputs that are x too.
-ghost use Rattle.std.specs.Prelude.{ℕ, ◌≡◌, ◌<◌, ◌^◌, ◌+◌, ◌&&◌, All, List, Option, if◌then◌else◌, Some, None, is_none, length, map, option_map, slice_get};
+ghost use Rattle.std.specs.Prelude.{◌≡◌, ◌<◌, ◌^◌, ◌+◌, ◌&&◌, All, if◌then◌else◌, None, is_none, length, option_map};
 ghost use Rattle.std.specs.List.{enumerate_from};
 ghost use Rattle.sg_logic.specs.Values.{is_same};
 ghost use Rattle.sg_logic.specs.declared.values.Value.TheVariants.{X};
 ghost use Rattle.why_causes.specs.Waveform.{value_at, last_before};
-ghost use Rattle.why_causes.specs.Candidates.{inputs_of, last_of as last_of_input};
+ghost use Rattle.why_causes.specs.Candidates.{last_of as last_of_input};
 ghost use Rattle.why_causes.specs.Causes.{became_first as first_unknown, never_set as first_never_set, unknown_inputs, by_unknown_inputs};
 ghost use Rattle.why_causes.specs.declared.links.Cause.TheVariants.{Nothing};
 ghost use Rattle.why_causes.specs.Best.{earlier_of};
@@ -44,7 +44,7 @@ fn never_set(trace: &Trace<'_>, time: u64, inputs: &[NetId]) -> Option<usize>
 }
 
 // The event that made an input x, which it is at a time.
-fn unknown_since(trace: &Trace<'_>, time: u64, input: u32, net: NetId) -> Option<Candidate>
+fn unknown_since(trace: &Trace<'_>, time: u64, input: usize, net: NetId) -> Option<Candidate>
     requires net { net < length trace.now.first }
     requires time { time < 2 ^ 60 }
     ensures { result ≡ (if is_same (value_at trace.now net time) X then last_of_input trace.now (time + 1) (input, net) else None) }
@@ -69,13 +69,12 @@ fn earlier(best: Option<Candidate>, other: Option<Candidate>) -> Option<Candidat
 // Of the inputs that are x at a time, and were not from the start, the one that became so first.
 fn became_first(trace: &Trace<'_>, time: u64, inputs: &[NetId]) -> Option<Candidate>
     requires nets { All (λ n. n < length trace.now.first) inputs.now }
-    requires few { length inputs.now < 2 ^ 32 }
     requires time { time < 2 ^ 60 }
     ensures { result ≡ first_unknown trace.now time (unknown_inputs trace.now time (enumerate_from 0 inputs.now)) }
 {
     let mut best = None;
     for (input, net) in inputs.iter().enumerate() {
-        best = earlier(best, unknown_since(trace, time, input as u32, *net));
+        best = earlier(best, unknown_since(trace, time, input, *net));
     }
     best
 }
@@ -83,7 +82,6 @@ fn became_first(trace: &Trace<'_>, time: u64, inputs: &[NetId]) -> Option<Candid
 /// What made an element's output x: the first of its inputs that was x from the start, else the one that became so first.
 pub(crate) fn by_unknown(trace: &Trace<'_>, element: u32, inputs: &[NetId], change: Change) -> Cause
     requires nets { All (λ n. n < length trace.now.first) inputs.now }
-    requires few { length inputs.now < 2 ^ 32 }
     requires time { change.time < 2 ^ 60 }
     ensures { result ≡ (if is_same change.to X then by_unknown_inputs trace.now element change (unknown_inputs trace.now change.time (enumerate_from 0 inputs.now)) else Nothing) }
 {
@@ -91,7 +89,6 @@ pub(crate) fn by_unknown(trace: &Trace<'_>, element: u32, inputs: &[NetId], chan
         return Cause::Nothing;
     }
     if let Some(input) = never_set(trace, change.time, inputs) {
-        let input = input as u32;
         return Cause::NeverSet { element, input };
     }
     let first = became_first(trace, change.time, inputs);
