@@ -1,1 +1,5 @@
 -- The modules of this folder.
+mod BestLaws
+mod Examples
+pub mod LatestLaws
+pub mod Lists

@@ -1,8 +1,7 @@
 -- What the code's trace of a run owes.
-use Rattle.std.specs.Prelude.{ℕ, ◌≡◌, ◌<◌, ◌≤◌, ◌^◌, nat_lt, Bool, All, List, length, map, slice_index_or}
+use Rattle.std.specs.Prelude.{ℕ, ◌≡◌, ◌<◌, ◌≤◌, ◌^◌, nat_lt, Bool, false, All, List, length, map, slice_get, Option, Some, None}
 use Rattle.std.specs.List.{enumerate_from, AllPairs}
 use Rattle.sg_logic.specs.declared.values.Value.{Value}
-use Rattle.sg_logic.specs.declared.values.Value.TheVariants.{X}
 use Rattle.sg_circuit.specs.Pins.{HasPins}
 use Rattle.sg_circuit.specs.declared.building.Pin.{Pin}
 use Rattle.why_causes.specs.declared.events.Event.{Event}
@@ -11,14 +10,19 @@ use Rattle.why_causes.specs.declared.events.Event.{Event}
 abbrev pub pins_of : List Event → List Pin
 pins_of events = map (λ e. record { net = e.1.net; element = e.0 }) (enumerate_from 0 events)
 
--- whether an event, by its number, comes before a time
-abbrev pub is_earlier : List Event → ℕ → ℕ → Bool
-is_earlier events time number = nat_lt (slice_index_or events number (record { time = 0; net = 0; value = X })).time time
+-- whether there is an event and it comes before a time
+abbrev pub comes_before : ℕ → Option Event → Bool
+comes_before time None = false
+comes_before time (Some e) = nat_lt e.time time
 
--- the rows have the numbers of each net's events, by times that don't fall
-pub record IsTrace (first : List Value) (events : List Event) (rows : List (List ℕ)) : Type 0 where
-  pub rows : HasPins (pins_of events) rows
-  pub row_of_each : length rows ≡ length first
+-- whether the event of a number does
+abbrev pub holds_before : List Event → ℕ → ℕ → Bool
+holds_before events time number = comes_before time (slice_get events number)
+
+-- the index has the numbers of each net's events, by times that don't fall
+pub record IsTrace (first : List Value) (events : List Event) (index : List (List ℕ)) : Type 0 where
+  pub rows : HasPins (pins_of events) index
+  pub row_of_each : length index ≡ length first
   pub few : length events < 2 ^ 32
   pub nets : All (λ e. e.net < length first) events
   pub times : All (λ e. e.time < 2 ^ 60) events

@@ -1,7 +1,7 @@
 // The events of a run, and for each net where its events are.
 ghost use Rattle.std.specs.Prelude.{◌≡◌, ◌<◌, ◌≤◌, ◌^◌, All, IfOk, filter, length, take};
 ghost use Rattle.std.specs.List.Sorted.{IsPartitionedBy};
-ghost use Rattle.why_causes.specs.Traces.{is_earlier, pins_of};
+ghost use Rattle.why_causes.specs.Traces.{holds_before as holds_before_time, pins_of};
 
 use crate::changes::Change;
 use crate::events::Event;
@@ -26,14 +26,27 @@ fn pins_of_events(alloc: Global, events: &[Event]) -> Result<Vec<Pin>, NoMemory>
     Ok(pins)
 }
 
+// Whether the event of a number comes before a time.
+fn holds_before(events: &[Event], number: u32, time: u64) -> bool
+    ensures { result ≡ holds_before_time events.now time number }
+{
+    match events.get(number as usize) {
+        Some(event) => event.time < time,
+        None => false,
+    }
+}
+
 // How many of a net's events come before a time.
 fn count_before(events: &[Event], row: &[u32], time: u64) -> usize
-    requires numbers { All (λ number. number < length events.now) row.now }
-    requires parted { IsPartitionedBy (is_earlier events.now time) row.now }
+    requires { IsPartitionedBy (holds_before_time events.now time) row.now }
     ensures within { result ≤ length row.now }
-    ensures count { take result row.now ≡ filter (is_earlier events.now time) row.now }
+    ensures count { take result row.now ≡ filter (holds_before_time events.now time) row.now }
 {
-    row.partition_point(|number| events[*number as usize].time < time)
+    row.partition_point(
+        |number: &u32| -> bool
+            ensures { result ≡ holds_before_time events.entry.now time number.now }
+        { holds_before(events, *number, time) },
+    )
 }
 
 /// A run as its nets show it: values before time 0, and each change after that.
