@@ -11,7 +11,7 @@ use Rattle.sg_circuit.specs.Timings.{Timing}
 use Rattle.sg_circuit.specs.Paths as specify
 use Rattle.sg_circuit.specs.declared.nets.Net.{Net}
 use Rattle.sg_circuit.specs.declared.nets.Driver.{Driver}
-use Rattle.sg_circuit.specs.declared.nets.Driver.TheVariants.{Stimulus, Element as Driven}
+use Rattle.sg_circuit.specs.declared.nets.Driver.TheVariants.{Notifier, Stimulus, Element as Driven}
 use Rattle.sg_circuit.specs.Circuit.{Circuit, Element, Kind, Gate, Udp, Pass, Path}
 use Rattle.why_causes.specs.declared.events.Event.{Event}
 use Rattle.why_causes.specs.declared.links.Link.{Link}
@@ -118,6 +118,14 @@ flip_flop = circuit (net (Driven 0) ∷ [])
 -- data and clock rise at once, the data first: the clock made the step
 the_clock : cause flip_flop (run (at 0 0 Zero ∷ at 0 1 Zero ∷ at 10 1 One ∷ at 12 2 Zero ∷ at 20 1 Zero ∷ at 30 0 One ∷ at 30 1 One ∷ at 32 2 One ∷ [])) 7 ≡ Linked (link 6 0 1 rule.Step 2)
 the_clock = refl
+
+-- an x as data goes on at the clock
+an_x_is_stored : cause flip_flop (run (at 0 0 Zero ∷ at 0 1 Zero ∷ at 10 1 One ∷ at 12 2 Zero ∷ at 20 1 Zero ∷ at 25 0 X ∷ at 30 1 One ∷ at 32 2 X ∷ [])) 7 ≡ Linked (link 5 0 0 rule.Unknown 7)
+an_x_is_stored = refl
+
+-- a is a notifier that no violation toggled: b made the and x
+an_idle_notifier : cause (record and_gate { nets = net Notifier ∷ net Stimulus ∷ net (Driven 0) ∷ [] }) (run (at 0 1 Zero ∷ at 3 2 Zero ∷ at 10 1 X ∷ at 13 2 X ∷ [])) 3 ≡ Linked (link 2 0 1 rule.Unknown 3)
+an_idle_notifier = refl
 
 -- two nets that copy each other without delay
 abbrev ring : Circuit

@@ -3,3 +3,4 @@ mod BestLaws
 mod Examples
 pub mod LatestLaws
 pub mod Lists
+pub mod TraceLaws

@@ -1,5 +1,5 @@
 -- The cause of a change: an event of an input of the element that drives the net. Four rules look for one, and the first that finds one decides.
-use Rattle.std.specs.Prelude.{ℕ, suc, ◌+◌, ◌-◌, ◌==◌, Bool, true, false, not, if◌then◌else◌, List, [], ◌∷◌, ◌++◌, map, take, drop, filter, filter_map, Option, Some, None, is_none, slice_get}
+use Rattle.std.specs.Prelude.{ℕ, suc, ◌+◌, ◌-◌, ◌==◌, Bool, true, false, ◌&&◌, not, if◌then◌else◌, List, [], ◌∷◌, ◌++◌, map, take, drop, filter, filter_map, Option, Some, None, is_none, slice_get}
 use Rattle.std.specs.List.{enumerate_from, last_or}
 use Rattle.std.specs.Option.{option_and_then}
 use Rattle.sg_logic.specs.declared.values.Value.{Value}
@@ -35,9 +35,22 @@ abbrev pub found : ℕ → Change → Rule → Option Candidate → Cause
 found element change by None = Nothing
 found element change by (Some c) = Linked (record { event = c.number; element = element; input = c.input; rule = by; delay = change.time - time_of c })
 
--- First, to x: the inputs that are x at the time of the change.
-abbrev pub unknown_inputs : Waveform → ℕ → List (ℕ × ℕ) → List (ℕ × ℕ)
-unknown_inputs w time inputs = filter (λ i. is_same (value_at w i.1 time) X) inputs
+-- First, to x: the inputs that are x at the time of the change. A notifier that no violation toggled yet is no such input: each flip-flop
+-- that fares well has one (15.5).
+abbrev pub is_notifier : Driver → Bool
+is_notifier driver.Nobody = false
+is_notifier driver.Stimulus = false
+is_notifier (driver.Element number) = false
+is_notifier driver.Notifier = true
+
+abbrev pub is_idle : Circuit → Waveform → ℕ → ℕ → Bool
+is_idle circuit w time net = is_notifier (net_at circuit net).driver && is_none (last_before w net (time + 1))
+
+abbrev pub is_unknown : Circuit → Waveform → ℕ → ℕ → Bool
+is_unknown circuit w time net = is_same (value_at w net time) X && not (is_idle circuit w time net)
+
+abbrev pub unknown_inputs : Circuit → Waveform → ℕ → List (ℕ × ℕ) → List (ℕ × ℕ)
+unknown_inputs circuit w time inputs = filter (λ i. is_unknown circuit w time i.1) inputs
 
 -- Of these the first that no event made x: it was so from the start, and the search ends there. Else the one that became x first.
 abbrev pub never_set : Waveform → ℕ → List (ℕ × ℕ) → Option (ℕ × ℕ)
@@ -53,9 +66,9 @@ never_or_first element change (Some input) first = NeverSet element input.0
 abbrev pub by_unknown_inputs : Waveform → ℕ → Change → List (ℕ × ℕ) → Cause
 by_unknown_inputs w element change unknown = never_or_first element change (never_set w change.time unknown) (became_first w change.time unknown)
 
-abbrev pub by_unknown : Waveform → ℕ → Element → Change → Cause
-by_unknown w number element change =
-    if is_same change.to X then by_unknown_inputs w number change (unknown_inputs w change.time (inputs_of element)) else Nothing
+abbrev pub by_unknown : Circuit → Waveform → ℕ → Element → Change → Cause
+by_unknown circuit w number element change =
+    if is_same change.to X then by_unknown_inputs w number change (unknown_inputs circuit w change.time (inputs_of element)) else Nothing
 
 -- Second, of specify paths: an event of the path's input exactly as long before the change as the path's delay for it.
 abbrev pub exactly : ℕ → Change → Candidate → Option Candidate
@@ -125,7 +138,7 @@ or_else (Linked link) other = Linked link
 -- the cause of a change of the output of the element of a number
 abbrev pub cause_through : Circuit → Waveform → ℕ → Change → Cause
 cause_through circuit w number change =
-    or_else (by_unknown w number (element_at circuit number) change)
+    or_else (by_unknown circuit w number (element_at circuit number) change)
     (or_else (by_path w number (element_at circuit number).kind change)
     (by_inputs w number (element_at circuit number) (element_at circuit number).kind change))
 

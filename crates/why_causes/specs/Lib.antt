@@ -7,3 +7,4 @@ pub mod Chains
 pub mod Fitting
 pub mod Steps
 pub mod Traces
+pub mod Unknowns

@@ -92,7 +92,7 @@ fn cause_through(
     ensures { IfOk result (λ cause. cause ≡ cause_through_element (circuit_seen parts.now) trace.now number change) }
 {
     let element = &parts.elements[number as usize];
-    let unknown = by_unknown(trace, number, &element.inputs, change);
+    let unknown = by_unknown(parts, trace, number, &element.inputs, change);
     if unknown != Cause::Nothing {
         return Ok(unknown);
     }

@@ -1,11 +1,13 @@
 // Where an x comes from: inputs that are x too.
-ghost use Rattle.std.specs.Prelude.{◌≡◌, ◌<◌, ◌^◌, ◌+◌, ◌&&◌, All, if◌then◌else◌, None, is_none, length, option_map};
+ghost use Rattle.std.specs.Prelude.{◌≡◌, ◌<◌, ◌^◌, ◌+◌, ◌&&◌, All, filter, if◌then◌else◌, None, is_none, length, position};
 ghost use Rattle.std.specs.List.{enumerate_from};
 ghost use Rattle.sg_logic.specs.Values.{is_same};
 ghost use Rattle.sg_logic.specs.declared.values.Value.TheVariants.{X};
-ghost use Rattle.why_causes.specs.Waveform.{value_at, last_before};
+ghost use Rattle.sg_circuit.specs.Seen.{circuit_seen};
+ghost use Rattle.why_causes.specs.Waveform.{last_before};
 ghost use Rattle.why_causes.specs.Candidates.{last_of as last_of_input};
-ghost use Rattle.why_causes.specs.Causes.{became_first as first_unknown, never_set as first_never_set, unknown_inputs, by_unknown_inputs};
+ghost use Rattle.why_causes.specs.Causes.{became_first as first_unknown, by_unknown_inputs, is_notifier, unknown_inputs};
+ghost use Rattle.why_causes.specs.Unknowns.{is_unknown_among, net_of};
 ghost use Rattle.why_causes.specs.declared.links.Cause.TheVariants.{Nothing};
 ghost use Rattle.why_causes.specs.Best.{earlier_of};
 
@@ -13,43 +15,66 @@ use crate::changes::{Candidate, Change};
 use crate::inputs::last_of;
 use crate::links::{Cause, Rule, found};
 use crate::traces::Trace;
-use sg_circuit::NetId;
+use sg_circuit::{Driver, Net, NetId, Parts};
 use sg_logic::Value;
 
-// Whether a net is x at a time.
-fn is_unknown(trace: &Trace<'_>, time: u64, net: NetId) -> bool
+// Whether a net is a notifier that no violation toggled up to a time.
+fn is_idle(nets: &[Net], trace: &Trace<'_>, time: u64, net: NetId) -> bool
+    requires nets { length nets.now ≡ length trace.now.first }
     requires net { net < length trace.now.first }
     requires time { time < 2 ^ 60 }
-    ensures { result ≡ is_same (value_at trace.now net time) X }
+    ensures { result ≡ (is_notifier (net_of nets.now net).driver && is_none (last_before trace.now net (time + 1))) }
 {
-    trace.value_before(net, time + 1) == Value::X
+    matches!(nets[net as usize].driver, Driver::Notifier)
+        && trace.last_before(net, time + 1).is_none()
 }
 
-// Whether a net is x at a time, and no event made it so.
-fn is_never_set(trace: &Trace<'_>, time: u64, net: NetId) -> bool
+// Whether a net is x at a time, and no such notifier.
+fn is_unknown(nets: &[Net], trace: &Trace<'_>, time: u64, net: NetId) -> bool
+    requires nets { length nets.now ≡ length trace.now.first }
     requires net { net < length trace.now.first }
     requires time { time < 2 ^ 60 }
-    ensures { result ≡ (is_same (value_at trace.now net time) X && is_none (last_before trace.now net (time + 1))) }
+    ensures { result ≡ is_unknown_among nets.now trace.now time net }
 {
-    is_unknown(trace, time, net) && trace.last_before(net, time + 1).is_none()
+    trace.value_before(net, time + 1) == Value::X && !is_idle(nets, trace, time, net)
+}
+
+// Whether it is, and was so from the start.
+fn is_never_set(nets: &[Net], trace: &Trace<'_>, time: u64, net: NetId) -> bool
+    requires nets { length nets.now ≡ length trace.now.first }
+    requires net { net < length trace.now.first }
+    requires time { time < 2 ^ 60 }
+    ensures { result ≡ (is_unknown_among nets.now trace.now time net && is_none (last_before trace.now net (time + 1))) }
+{
+    is_unknown(nets, trace, time, net) && trace.last_before(net, time + 1).is_none()
 }
 
 // The first of the inputs that are x from the start up to a time.
-fn never_set(trace: &Trace<'_>, time: u64, inputs: &[NetId]) -> Option<usize>
-    requires nets { All (λ n. n < length trace.now.first) inputs.now }
+fn never_set(nets: &[Net], trace: &Trace<'_>, time: u64, inputs: &[NetId]) -> Option<usize>
+    requires nets { length nets.now ≡ length trace.now.first }
+    requires inputs { All (λ n. n < length trace.now.first) inputs.now }
     requires time { time < 2 ^ 60 }
-    ensures { result ≡ option_map (λ i. i.0) (first_never_set trace.now time (unknown_inputs trace.now time (enumerate_from 0 inputs.now))) }
+    ensures { result ≡ position (λ n. is_unknown_among nets.now trace.now time n && is_none (last_before trace.now n (time + 1))) inputs.now }
 {
-    inputs.iter().position(|net| is_never_set(trace, time, *net))
+    inputs
+        .iter()
+        .position(|net| is_never_set(nets, trace, time, *net))
 }
 
 // The event that made an input x, which it is at a time.
-fn unknown_since(trace: &Trace<'_>, time: u64, input: usize, net: NetId) -> Option<Candidate>
+fn unknown_since(
+    nets: &[Net],
+    trace: &Trace<'_>,
+    time: u64,
+    input: usize,
+    net: NetId,
+) -> Option<Candidate>
+    requires nets { length nets.now ≡ length trace.now.first }
     requires net { net < length trace.now.first }
     requires time { time < 2 ^ 60 }
-    ensures { result ≡ (if is_same (value_at trace.now net time) X then last_of_input trace.now (time + 1) (input, net) else None) }
+    ensures { result ≡ (if is_unknown_among nets.now trace.now time net then last_of_input trace.now (time + 1) (input, net) else None) }
 {
-    if !is_unknown(trace, time, net) {
+    if !is_unknown(nets, trace, time, net) {
         return None;
     }
     last_of(trace, time + 1, input, net)
@@ -67,30 +92,43 @@ fn earlier(best: Option<Candidate>, other: Option<Candidate>) -> Option<Candidat
 }
 
 // Of the inputs that are x at a time, and were not from the start, the one that became so first.
-fn became_first(trace: &Trace<'_>, time: u64, inputs: &[NetId]) -> Option<Candidate>
-    requires nets { All (λ n. n < length trace.now.first) inputs.now }
+fn became_first(
+    nets: &[Net],
+    trace: &Trace<'_>,
+    time: u64,
+    inputs: &[NetId],
+) -> Option<Candidate>
+    requires nets { length nets.now ≡ length trace.now.first }
+    requires inputs { All (λ n. n < length trace.now.first) inputs.now }
     requires time { time < 2 ^ 60 }
-    ensures { result ≡ first_unknown trace.now time (unknown_inputs trace.now time (enumerate_from 0 inputs.now)) }
+    ensures { result ≡ first_unknown trace.now time (filter (λ i. is_unknown_among nets.now trace.now time i.1) (enumerate_from 0 inputs.now)) }
 {
     let mut best = None;
     for (input, net) in inputs.iter().enumerate() {
-        best = earlier(best, unknown_since(trace, time, input, *net));
+        best = earlier(best, unknown_since(nets, trace, time, input, *net));
     }
     best
 }
 
 /// What made an element's output x: the first of its inputs that was x from the start, else the one that became so first.
-pub(crate) fn by_unknown(trace: &Trace<'_>, element: u32, inputs: &[NetId], change: Change) -> Cause
-    requires nets { All (λ n. n < length trace.now.first) inputs.now }
+pub(crate) fn by_unknown(
+    parts: &Parts,
+    trace: &Trace<'_>,
+    element: u32,
+    inputs: &[NetId],
+    change: Change,
+) -> Cause
+    requires nets { length parts.now.nets.items ≡ length trace.now.first }
+    requires inputs { All (λ n. n < length trace.now.first) inputs.now }
     requires time { change.time < 2 ^ 60 }
-    ensures { result ≡ (if is_same change.to X then by_unknown_inputs trace.now element change (unknown_inputs trace.now change.time (enumerate_from 0 inputs.now)) else Nothing) }
+    ensures { result ≡ (if is_same change.to X then by_unknown_inputs trace.now element change (unknown_inputs (circuit_seen parts.now) trace.now change.time (enumerate_from 0 inputs.now)) else Nothing) }
 {
     if change.to != Value::X {
         return Cause::Nothing;
     }
-    if let Some(input) = never_set(trace, change.time, inputs) {
+    if let Some(input) = never_set(&parts.nets, trace, change.time, inputs) {
         return Cause::NeverSet { element, input };
     }
-    let first = became_first(trace, change.time, inputs);
+    let first = became_first(&parts.nets, trace, change.time, inputs);
     found(element, change, Rule::Unknown, first)
 }
