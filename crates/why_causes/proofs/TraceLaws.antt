@@ -1,15 +1,19 @@
 -- A net's events, found by the numbers that stand under it.
-use Rattle.std.specs.Prelude.{◌≡◌, ℕ, zero, suc, ◌+◌, ◌<◌, ◌≤◌, ◌==◌, nat_lt, ◌&&◌, Bool, true, false, cond, All, List, [], ◌∷◌, ◌++◌, length, map, take, filter, Option, Some, None, slice_get, slice_index_or, refl}
+use Rattle.std.specs.Prelude.{◌≡◌, ℕ, zero, suc, ◌+◌, ◌-◌, ◌<◌, ◌≤◌, ◌==◌, nat_lt, ◌&&◌, Bool, true, false, cond, All, List, [], ◌∷◌, ◌++◌, length, map, take, filter, Option, Some, None, slice_get, slice_index_or, refl}
 use Rattle.std.specs.List.{enumerate_from, last_or, AllByRecursion, AllPairs}
 use Rattle.std.specs.List.Sorted.{IsPartitionedBy, IsPartitionPoint}
-use Rattle.std.proofs.Common.{sym, ◌∙◌, ap, subst, arith, append_assoc, length-take-le, get_or-take}
+use Rattle.std.proofs.Common.{sym, ◌∙◌, ap, subst, arith, append_assoc, length-append, length-take-le, get_or-take}
 use Rattle.std.proofs.lemmas.Bool.Decides.{nat_tests}
 use Rattle.std.proofs.lemmas.List.{length-map}
+use Rattle.std.proofs.lemmas.Option.{get_or_from_slice_get}
+use Rattle.sg_logic.specs.declared.values.Value.{Value}
+use Rattle.sg_logic.specs.declared.values.Value.TheVariants.{X}
+use Rattle.sg_circuit.specs.FanOut.{readers_at}
 use Rattle.sg_circuit.specs.declared.building.Pin.{Pin}
 use Rattle.sg_circuit.specs.Pins.{elements_on}
 use Rattle.why_causes.specs.declared.events.Event.{Event}
-use Rattle.why_causes.specs.Waveform.{is_before}
-use Rattle.why_causes.specs.Traces.{pins_of, comes_before, holds_before}
+use Rattle.why_causes.specs.Waveform.{Waveform, is_before, last_before}
+use Rattle.why_causes.specs.Traces.{pins_of, comes_before, holds_before, IsTrace}
 use Rattle.why_causes.proofs.Lists.{each-weaker, each-filter, filter-both}
 
 abbrev pub of_net : ℕ → ℕ × Event → Bool
@@ -45,7 +49,7 @@ all-stand-from : (before rest : List Event) (k : ℕ) → k ≡ length before �
 all-stand-from before [] k is = tt
 all-stand-from before (e ∷ es) k is =
     (ap (slice_get (before ++ e ∷ es)) is ∙ get-mid before e es,
-    subst (λ xs. AllByRecursion (Stands xs) (enumerate_from (k + 1) es)) (append_assoc before (e ∷ []) es) (all-stand-from (before ++ e ∷ []) es (k + 1) (grind (arith, is))))
+    subst (λ xs. AllByRecursion (Stands xs) (enumerate_from (k + 1) es)) (append_assoc before (e ∷ []) es) (all-stand-from (before ++ e ∷ []) es (k + 1) (let m = length-append before (e ∷ []) in omega (arith, is, m))))
 
 all-stand : (events : List Event) → AllByRecursion (Stands events) (enumerate_from 0 events)
 all-stand events = all-stand-from [] events 0 refl
@@ -106,12 +110,6 @@ parted events time (e ∷ es) s h zero (suc j) d m l p = same-test events time e
 parted events time (e ∷ es) s h (suc i) zero d m l p = absurd (omega arith)
 parted events time (e ∷ es) s h (suc i) (suc j) d m l p = parted events time es s.1 h.1 i j d (omega arith) (omega arith) p
 
-pub row-parted : (events : List Event) (net time : ℕ) (row : List ℕ) → AllPairs (λ d e. d.time ≤ e.time) events → row ≡ elements_on net (pins_of events) → IsPartitionedBy (holds_before events time) row
-row-parted events net time row rise is =
-    subst (IsPartitionedBy (holds_before events time)) (sym (is ∙ row-of net (enumerate_from 0 events)))
-    (parted events time (filter (of_net net) (enumerate_from 0 events)) (each-filter (Stands events) (of_net net) (enumerate_from 0 events) (all-stand events))
-    (rise-filter (of_net net) (enumerate_from 0 events) (rise-from events 0 rise)))
-
 last-at : {A : Type 0} (o : Option A) (es : List A) (k : ℕ) (d : A) → length es ≡ suc k → last_or o es ≡ Some (slice_index_or es k d)
 last-at o [] k d l = absurd (omega (arith, l))
 last-at o (x ∷ []) zero d l = refl
@@ -147,6 +145,17 @@ last-number events es row k d f s e l =
       stands = ap (slice_get events) (sym number) ∙ each-at (Stands events) es k (d, f) s within;
     }
 
+none-some : {A : Type 0} {x : A} → ◌≡◌ {A = Option A} None (Some x) → ⊥
+none-some h = cc
+
+abbrev blank : Event
+blank = record { time = 0; net = 0; value = X }
+
+stands-within : (events : List Event) (n : ℕ) (e : Event) → slice_get events n ≡ Some e → n < length events
+stands-within [] n e h = absurd (none-some h)
+stands-within (x ∷ xs) zero e h = omega arith
+stands-within (x ∷ xs) (suc n) e h = let l = stands-within xs n e h in omega (arith, l)
+
 -- the events of a net before a time
 abbrev found : List Event → ℕ → ℕ → List (ℕ × Event)
 found events net time = filter (is_before net time) (enumerate_from 0 events)
@@ -163,14 +172,31 @@ none-last : (es : List (ℕ × Event)) → map first_of es ≡ [] → last_or No
 none-last [] e = refl
 none-last (x ∷ xs) e = absurd (omega (arith, ap length e))
 
-pub none-before : (events : List Event) (net time count : ℕ) (row : List ℕ) → row ≡ elements_on net (pins_of events) → take count row ≡ filter (holds_before events time) row → count ≡ 0 → last_or None (found events net time) ≡ None
+none-before : (events : List Event) (net time count : ℕ) (row : List ℕ) → row ≡ elements_on net (pins_of events) → take count row ≡ filter (holds_before events time) row → count ≡ 0 → last_or None (found events net time) ≡ None
 none-before events net time count row is counted zeroth = none-last (found events net time) (numbers-found events net time count row is counted ∙ ap (λ n. take n row) zeroth)
 
-pub last-found : (events : List Event) (net time count k d : ℕ) (row : List ℕ) (f : Event) → row ≡ elements_on net (pins_of events) → take count row ≡ filter (holds_before events time) row → count ≤ length row → count ≡ suc k
+last-found : (events : List Event) (net time count k d : ℕ) (row : List ℕ) → row ≡ elements_on net (pins_of events) → take count row ≡ filter (holds_before events time) row → count ≤ length row → count ≡ suc k
     → IsLast events row k d (last_or None (found events net time))
-last-found events net time count k d row f is counted l e =
-    last-number events (found events net time) row k d f (each-filter (Stands events) (is_before net time) (enumerate_from 0 events) (all-stand events))
+last-found events net time count k d row is counted l e =
+    last-number events (found events net time) row k d blank (each-filter (Stands events) (is_before net time) (enumerate_from 0 events) (all-stand events))
     (numbers-found events net time count row is counted ∙ ap (λ n. take n row) e) (omega (arith, l, e))
+
+last-there-in : (events : List Event) (net time count d : ℕ) (row : List ℕ) → row ≡ elements_on net (pins_of events) → take count row ≡ filter (holds_before events time) row → count ≤ length row → (count ≡ 0 → ⊥)
+    → slice_index_or row (count - 1) d < length events
+last-there-in events net time zero d row is counted l some = absurd (some refl)
+last-there-in events net time (suc k) d row is counted l some =
+    let one : suc k - 1 ≡ k = omega arith in
+    let found = last-found events net time (suc k) k d row is counted l refl in
+    subst (λ n. slice_index_or row n d < length events) (sym one) (stands-within events (slice_index_or row k d) found.event found.stands)
+
+last-is-in : (events : List Event) (net time count d : ℕ) (row : List ℕ) (f : Event) → row ≡ elements_on net (pins_of events) → take count row ≡ filter (holds_before events time) row → count ≤ length row → (count ≡ 0 → ⊥)
+    → Some (slice_index_or row (count - 1) d, slice_index_or events (slice_index_or row (count - 1) d) f) ≡ last_or None (found events net time)
+last-is-in events net time zero d row f is counted l some = absurd (some refl)
+last-is-in events net time (suc k) d row f is counted l some =
+    let one : suc k - 1 ≡ k = omega arith in
+    let found = last-found events net time (suc k) k d row is counted l refl in
+    ap (λ n. Some (slice_index_or row n d, slice_index_or events (slice_index_or row n d) f)) one
+    ∙ (ap (λ (x : Event). Some (slice_index_or row k d, x)) (get_or_from_slice_get events (slice_index_or row k d) found.event f found.stands) ∙ sym found.is)
 
 none-pass : (p : ℕ → Bool) (ns : List ℕ) → ((k d : ℕ) → k < length ns → p (slice_index_or ns k d) ≡ false) → filter p ns ≡ []
 none-pass p [] h = refl
@@ -183,3 +209,30 @@ up-to-point p [] (suc count) h l = absurd (omega (arith, l))
 up-to-point p (n ∷ ns) (suc count) h l =
     ap (λ ms. n ∷ ms) (up-to-point p ns count ((λ k d a b. h.0 (suc k) d (omega arith) (omega (arith, b))), (λ k d a b. h.1 (suc k) d (omega (arith, a)) (omega (arith, b)))) (omega (arith, l)))
     ∙ sym (ap (λ b. cond b (n ∷ filter p ns) (filter p ns)) (h.0 0 0 (omega arith) (omega arith)))
+
+-- a net's events in a trace
+module _ (w : Waveform) (first : List Value) (events : List Event) (index : List (List ℕ)) (net : ℕ) (row : List ℕ) (trace : IsTrace first events index) (view : record { first = first; events = events } ≡ w)
+    (within : net < length w.first) (is : row ≡ readers_at index net) where
+
+  own : row ≡ elements_on net (pins_of events)
+  own =
+      let same : length first ≡ length w.first = ap (λ (v : Waveform). length v.first) view in
+      is ∙ trace.rows.each net (omega (arith, within, same, trace.row_of_each))
+
+  pub row-parted : (time : ℕ) → IsPartitionedBy (holds_before events time) row
+  row-parted time =
+      subst (IsPartitionedBy (holds_before events time)) (sym (own ∙ row-of net (enumerate_from 0 events)))
+      (parted events time (filter (of_net net) (enumerate_from 0 events)) (each-filter (Stands events) (of_net net) (enumerate_from 0 events) (all-stand events))
+      (rise-filter (of_net net) (enumerate_from 0 events) (rise-from events 0 trace.rise)))
+
+  pub none-found : (time count : ℕ) → take count row ≡ filter (holds_before events time) row → count ≡ 0 → None ≡ last_before w net time
+  none-found time count counted zeroth =
+      sym (sym (ap (λ (v : Waveform). last_before v net time) view) ∙ none-before events net time count row own counted zeroth)
+
+  -- the number before the count stands in the row, and its event is there
+  pub last-there : (time count d : ℕ) → take count row ≡ filter (holds_before events time) row → count ≤ length row → (count ≡ 0 → ⊥) → slice_index_or row (count - 1) d < length events
+  last-there time count d counted l some = last-there-in events net time count d row own counted l some
+
+  pub last-is : (time count d : ℕ) (f : Event) → take count row ≡ filter (holds_before events time) row → count ≤ length row → (count ≡ 0 → ⊥)
+      → Some (slice_index_or row (count - 1) d, slice_index_or events (slice_index_or row (count - 1) d) f) ≡ last_before w net time
+  last-is time count d f counted l some = last-is-in events net time count d row f own counted l some ∙ ap (λ (v : Waveform). last_before v net time) view

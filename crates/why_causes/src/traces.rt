@@ -121,7 +121,11 @@ impl<'a> Trace<'a> {
         ensures { result ≡ last_event_before self.now net time }
     {
         let row = self.rows.of(net);
-        let number = row[count_before(self.events, row, time).checked_sub(1)?];
+        let count = count_before(self.events, row, time);
+        if count == 0 {
+            return None;
+        }
+        let number = row[count - 1];
         Some((number, self.events[number as usize]))
     }
 
