@@ -2,7 +2,7 @@
 use Rattle.std.specs.Prelude.{ℕ, ◌<◌, ◌≤◌, All, Option, Some, None, if◌then◌else◌, length}
 use Rattle.udp_rows.specs.Meaning.{Primitive}
 use Rattle.sg_circuit.specs.Circuit.{Kind, Udp}
-use Rattle.sg_circuit.specs.Closed.{NamesNets, TakesInputs}
+use Rattle.sg_circuit.specs.Closed.{HasDelays, NamesNets, TakesInputs}
 use Rattle.sg_circuit.specs.Seen.{kind_seen, IsIndexed}
 use Rattle.sg_circuit.specs.declared.elements.Element as code_element
 use Rattle.sg_circuit.specs.declared.circuits.Parts.{Parts}
@@ -11,6 +11,7 @@ use Rattle.sg_circuit.specs.declared.circuits.Parts.{Parts}
 pub record Fits (nets : ℕ) (parts : Parts) (e : code_element.Element) : Type 0 where
   pub indexed : IsIndexed parts e.kind
   pub counts : All (λ d. d.count ≤ 3) parts.gate_delays.items
+  pub delays : HasDelays (kind_seen parts e.kind)
   pub inputs : All (λ n. n < nets) e.inputs.items
   pub names : NamesNets nets (kind_seen parts e.kind)
   pub takes : TakesInputs (kind_seen parts e.kind) (length e.inputs.items)

@@ -1,7 +1,7 @@
 // The cause of a change: four rules look for one, and the first that finds one decides.
 ghost use Rattle.std.specs.Prelude.{◌≡◌, ◌<◌, ◌^◌, All, IfOk, length};
 ghost use Rattle.std.specs.Option.{option_copied};
-ghost use Rattle.sg_circuit.specs.Closed.{IsClosed, NamesNets};
+ghost use Rattle.sg_circuit.specs.Closed.{HasDelays, IsClosed, NamesNets};
 ghost use Rattle.sg_circuit.specs.Seen.{circuit_seen, element_seen, kind_seen, AreIndexed, IsIndexed};
 ghost use Rattle.why_causes.specs.Causes.{by_inputs as by_inputs_of, by_path as by_path_of, cause as cause_of_event, cause_through as cause_through_element};
 ghost use Rattle.why_causes.specs.Fitting.{sequential, Fits};
@@ -29,6 +29,7 @@ fn by_path(
 ) -> Cause
     requires indexed { IsIndexed parts.now kind }
     requires names { NamesNets (length trace.now.first) (kind_seen parts.now kind) }
+    requires delays { HasDelays (kind_seen parts.now kind) }
     requires time { change.time < 2 ^ 60 }
     ensures { result ≡ by_path_of trace.now number (kind_seen parts.now kind) change }
 {

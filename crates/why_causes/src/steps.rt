@@ -1,6 +1,7 @@
 // Which input of a sequential primitive made the step to a new state.
-ghost use Rattle.std.specs.Prelude.{◌≡◌, ◌<◌, ◌++◌, All, IfOk, None, filter_map, if◌then◌else◌, length, map, take, drop, suc};
-ghost use Rattle.std.specs.List.{enumerate_from};
+ghost use Rattle.std.specs.Prelude.{◌≡◌, ◌<◌, ◌++◌, [], All, IfOk, OnOk, None, filter_map, if◌then◌else◌, length, map, not, take, drop, suc};
+ghost use Rattle.std.specs.List.{cons_option, enumerate_from, last_or};
+ghost use Rattle.sg_logic.specs.Values.{is_same};
 ghost use Rattle.why_causes.specs.Waveform.{value_before};
 ghost use Rattle.why_causes.specs.Candidates.{last_of_each, latest};
 ghost use Rattle.why_causes.specs.Causes.{is_step as is_step_of, last_step as last_step_of};
@@ -32,8 +33,22 @@ fn values_before(
     Ok(values)
 }
 
+// Whether two values differ.
+fn differ(one: Value, other: Value) -> bool
+    ensures { result ≡ not (is_same one other) }
+{
+    !(one == other)
+}
+
 // Whether the state is another once an input, too, has its new value, which it then has.
-fn is_step(rows: &UdpRows, old: &[Value], new: &[Value], taken: &mut [Value], state: Value, input: usize) -> bool
+fn is_step(
+    rows: &UdpRows,
+    old: &[Value],
+    new: &[Value],
+    taken: &mut [Value],
+    state: Value,
+    input: usize,
+) -> bool
     requires old { length old.now ≡ rows.now.inputs }
     requires new { length new.now ≡ rows.now.inputs }
     requires input { input < rows.now.inputs }
@@ -43,7 +58,28 @@ fn is_step(rows: &UdpRows, old: &[Value], new: &[Value], taken: &mut [Value], st
 {
     let before = rows.next(old, taken, state);
     taken[input] = new[input];
-    rows.next(old, taken, state) != before
+    differ(before, rows.next(old, taken, state))
+}
+
+// Of each input whether it is a step; `taken` has the old values before, and the new ones after.
+fn push_steps(
+    steps: &mut Vec<bool>,
+    rows: &UdpRows,
+    old: &[Value],
+    new: &[Value],
+    taken: &mut [Value],
+    state: Value,
+) -> Result<(), NoMemory>
+    requires old { length old.now ≡ rows.now.inputs }
+    requires new { length new.now ≡ rows.now.inputs }
+    requires taken { taken.old ≡ old.now }
+    requires none { steps.old.items ≡ [] }
+    ensures { OnOk result (AreSteps rows.now old.now new.now state steps.new.items) }
+{
+    for input in 0..old.len() {
+        steps.push(is_step(rows, old, new, taken, state, input))?;
+    }
+    Ok(())
 }
 
 // Of each input whether it is a step.
@@ -60,9 +96,7 @@ fn steps_of(
 {
     let mut taken = Vec::from_slice(alloc, old)?;
     let mut steps = Vec::new(alloc);
-    for input in 0..old.len() {
-        steps.push(is_step(rows, old, new, &mut taken, state, input))?;
-    }
+    push_steps(&mut steps, rows, old, new, &mut taken, state)?;
     Ok(steps)
 }
 
@@ -92,6 +126,16 @@ fn kept_if(test: bool, candidate: Option<Candidate>) -> Option<Candidate>
     if test { candidate } else { None }
 }
 
+// What was found, else what was kept.
+fn found_or(kept: Option<Candidate>, found: Option<Candidate>) -> Option<Candidate>
+    ensures { result ≡ last_or kept (cons_option found []) }
+{
+    match found {
+        Some(found) => Some(found),
+        None => kept,
+    }
+}
+
 // Of the inputs whose last event before a limit is at a time the last that is a step, else the last.
 fn last_of_steps(
     trace: &Trace<'_>,
@@ -108,10 +152,10 @@ fn last_of_steps(
     let mut stepped = None;
     for (input, net) in inputs.iter().enumerate() {
         let found = last_at(trace, limit, time, input, *net);
-        last = found.or(last);
-        stepped = kept_if(steps[input], found).or(stepped);
+        last = found_or(last, found);
+        stepped = found_or(stepped, kept_if(steps[input], found));
     }
-    stepped.or(last)
+    found_or(last, stepped)
 }
 
 /// Of the inputs of a sequential primitive that changed last before a limit, taken in order, the last that changed the state; where

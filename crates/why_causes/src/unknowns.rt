@@ -6,7 +6,7 @@ ghost use Rattle.sg_logic.specs.declared.values.Value.TheVariants.{X};
 ghost use Rattle.sg_circuit.specs.Seen.{circuit_seen};
 ghost use Rattle.why_causes.specs.Waveform.{last_before};
 ghost use Rattle.why_causes.specs.Candidates.{last_of as last_of_input};
-ghost use Rattle.why_causes.specs.Causes.{became_first as first_unknown, by_unknown_inputs, is_notifier, unknown_inputs};
+ghost use Rattle.why_causes.specs.Causes.{became_first as first_unknown, by_unknown_inputs as by_unknown_inputs_of, is_notifier, unknown_inputs};
 ghost use Rattle.why_causes.specs.Unknowns.{is_unknown_among, net_of};
 ghost use Rattle.why_causes.specs.declared.links.Cause.TheVariants.{Nothing};
 ghost use Rattle.why_causes.specs.Best.{earlier_of};
@@ -110,7 +110,36 @@ fn became_first(
     best
 }
 
-/// What made an element's output x: the first of its inputs that was x from the start, else the one that became so first.
+// Of an element's inputs the first that was x from the start, else the one that became so first.
+fn by_unknown_inputs(
+    nets: &[Net],
+    trace: &Trace<'_>,
+    element: u32,
+    inputs: &[NetId],
+    change: Change,
+) -> Cause
+    requires nets { length nets.now ≡ length trace.now.first }
+    requires inputs { All (λ n. n < length trace.now.first) inputs.now }
+    requires time { change.time < 2 ^ 60 }
+    ensures { result ≡ by_unknown_inputs_of trace.now element change (filter (λ i. is_unknown_among nets.now trace.now change.time i.1) (enumerate_from 0 inputs.now)) }
+{
+    match never_set(nets, trace, change.time, inputs) {
+        Some(input) => Cause::NeverSet { element, input },
+        None => {
+            let first = became_first(nets, trace, change.time, inputs);
+            found(element, change, Rule::Unknown, first)
+        }
+    }
+}
+
+// Whether a value is x.
+fn is_x(value: Value) -> bool
+    ensures { result ≡ is_same value X }
+{
+    value == Value::X
+}
+
+/// What made an element's output x: inputs that are x too.
 pub(crate) fn by_unknown(
     parts: &Parts,
     trace: &Trace<'_>,
@@ -121,14 +150,10 @@ pub(crate) fn by_unknown(
     requires nets { length parts.now.nets.items ≡ length trace.now.first }
     requires inputs { All (λ n. n < length trace.now.first) inputs.now }
     requires time { change.time < 2 ^ 60 }
-    ensures { result ≡ (if is_same change.to X then by_unknown_inputs trace.now element change (unknown_inputs (circuit_seen parts.now) trace.now change.time (enumerate_from 0 inputs.now)) else Nothing) }
+    ensures { result ≡ (if is_same change.to X then by_unknown_inputs_of trace.now element change (unknown_inputs (circuit_seen parts.now) trace.now change.time (enumerate_from 0 inputs.now)) else Nothing) }
 {
-    if change.to != Value::X {
+    if !is_x(change.to) {
         return Cause::Nothing;
     }
-    if let Some(input) = never_set(&parts.nets, trace, change.time, inputs) {
-        return Cause::NeverSet { element, input };
-    }
-    let first = became_first(&parts.nets, trace, change.time, inputs);
-    found(element, change, Rule::Unknown, first)
+    by_unknown_inputs(&parts.nets, trace, element, inputs, change)
 }
