@@ -8,3 +8,4 @@ pub mod PathLaws
 pub mod StepLaws
 pub mod TraceLaws
 pub mod UnknownLaws
+pub mod WithinLaws

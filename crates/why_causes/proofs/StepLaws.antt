@@ -1,5 +1,5 @@
 -- The last input whose step changed the state.
-use Rattle.std.specs.Prelude.{◌≡◌, ℕ, zero, suc, ◌+◌, ◌<◌, ◌≤◌, ◌==◌, nat_le, Bool, true, false, cond, ◌&&◌, List, [], ◌∷◌, ◌++◌, filter, filter_map, length, map, take, drop, Option, Some, None, slice_get, slice_index_or, slice_set, ◌⊎◌, unwrap_or, option_map, refl}
+use Rattle.std.specs.Prelude.{◌≡◌, ℕ, zero, suc, ◌+◌, ◌<◌, ◌≤◌, ◌==◌, nat_le, Bool, true, false, cond, not, ◌&&◌, List, [], ◌∷◌, ◌++◌, filter, filter_map, length, map, take, drop, Option, Some, None, slice_get, slice_index_or, slice_set, ◌⊎◌, unwrap_or, option_map, refl}
 use Rattle.std.specs.List.{enumerate_from, last_or, AllByRecursion, cons_option, list_all}
 use Rattle.std.specs.Option.{option_and_then}
 use Rattle.std.proofs.Common.{sym, ◌∙◌, ap, subst, arith, inl, inr, eqb-true}
@@ -7,8 +7,9 @@ use Rattle.std.proofs.lemmas.List.{get_or_push, length-map}
 use Rattle.std.proofs.Math.ListN.{get_or-append}
 use Rattle.std.proofs.lemmas.Bool.Decides.{nat_tests}
 use Rattle.std.proofs.lemmas.List.Elements.{filter-append}
+use Rattle.sg_logic.specs.Values.{is_same}
 use Rattle.sg_logic.specs.declared.values.Value.{Value}
-use Rattle.udp_rows.specs.Meaning.{Primitive}
+use Rattle.udp_rows.specs.Meaning.{Primitive, udp_next}
 use Rattle.why_causes.specs.declared.changes.Candidate.{Candidate}
 use Rattle.why_causes.specs.declared.events.Event.{Event}
 use Rattle.why_causes.specs.Waveform.{Waveform, last_before, value_before}
@@ -62,6 +63,11 @@ steps-more test steps i flag new m h f e = (ap length e ∙ long steps flag ∙ 
       inl below ↦ get_or-append bs (b ∷ []) false k (omega (arith, below, m)) ∙ h k below
       | inr same ↦ get_or_push bs b false k (m ∙ sym same) ∙ (f ∙ ap test (sym same))
     ]
+
+pub is-step-by : (udp : Primitive) (old new taken taken' : List Value) (state before after : Value) (i : ℕ) (result : Bool) → result ≡ not (is_same before after) → before ≡ udp_next udp old taken state → after ≡ udp_next udp old taken' state
+    → taken ≡ take i new ++ drop i old → taken' ≡ take (suc i) new ++ drop (suc i) old → result ≡ is_step udp old new state i
+is-step-by udp old new taken taken' state before after i result r b a t u =
+    r ∙ (ap (λ v. not (is_same v after)) (b ∙ ap (λ vs. udp_next udp old vs state) t) ∙ ap (λ v. not (is_same (udp_next udp old (take i new ++ drop i old) state) v)) (a ∙ ap (λ vs. udp_next udp old vs state) u))
 
 -- the last of two lists
 last-append : {A : Type 0} (o : Option A) (xs ys : List A) → last_or o (xs ++ ys) ≡ last_or (last_or o xs) ys
@@ -136,13 +142,13 @@ list-all-each {A} p (x ∷ xs) h = at (p x) refl h (list-all-each p xs)
     at false e h rest = absurd (cc)
 
 -- what is first of a filter passes it, and is one of the elements
-first-passes : {A : Type 0} (P : A → Type 0) (p : A → Bool) (xs : List A) (a : A) → AllByRecursion P xs → slice_get (filter p xs) 0 ≡ Some a → (p a ≡ true) × P a
+pub first-passes : {A : Type 0} (P : A → Type 0) (p : A → Bool) (xs : List A) (a : A) → AllByRecursion P xs → slice_get (filter p xs) 0 ≡ Some a → (p a ≡ true) × P a
 first-passes P p [] a each h = absurd (none-some h)
-first-passes {A} P p (x ∷ xs) a each h = at (p x) refl h
+first-passes {A} P p (x ∷ xs) a each h = at (p x) refl h (first-passes P p xs a each.1)
   where
-    at : (b : Bool) → p x ≡ b → slice_get (cond b (x ∷ filter p xs) (filter p xs)) 0 ≡ Some a → (p a ≡ true) × P a
-    at true e h = let same : x ≡ a = some-some h in (subst (λ y. p y ≡ true) same e, subst P same each.0)
-    at false e h = first-passes P p xs a each.1 h
+    at : (b : Bool) → p x ≡ b → slice_get (cond b (x ∷ filter p xs) (filter p xs)) 0 ≡ Some a → (slice_get (filter p xs) 0 ≡ Some a → (p a ≡ true) × P a) → (p a ≡ true) × P a
+    at true e h rest = let same : x ≡ a = some-some h in (subst (λ y. p y ≡ true) same e, subst P same each.0)
+    at false e h rest = rest h
 
 others : (cs : List Candidate) (s : ℕ) → AllByRecursion (λ (d : Candidate). nat_le (time_of d) s ≡ true) cs → list_all (λ (e : Candidate). nat_le (time_of e) s) cs ≡ true
     → (d : Candidate) → nat_le (time_of d) s ≡ true → (list_all (λ (e : Candidate). nat_le (time_of e) (time_of d)) cs ≡ true → nat_le s (time_of d) ≡ true)

@@ -5,6 +5,7 @@ ghost use Rattle.sg_circuit.specs.Closed.{HasDelays, IsClosed, NamesNets};
 ghost use Rattle.sg_circuit.specs.Seen.{circuit_seen, element_seen, kind_seen, AreIndexed, IsIndexed};
 ghost use Rattle.why_causes.specs.Causes.{by_inputs as by_inputs_of, by_path as by_path_of, cause as cause_of_event, cause_through as cause_through_element};
 ghost use Rattle.why_causes.specs.Fitting.{sequential, Fits};
+ghost use Rattle.why_causes.specs.Links.{IsWithin};
 
 use crate::changes::Change;
 use crate::delays::{delay_of, limit_of};
@@ -109,7 +110,8 @@ fn cause_through(
 pub fn cause(alloc: Global, circuit: &Circuit, trace: &Trace<'_>, event: u32) -> Result<Cause, NoMemory>
     requires nets { length trace.now.first ≡ length circuit.now.nets }
     requires event { event < length trace.now.events }
-    ensures { IfOk result (λ cause. cause ≡ cause_of_event circuit.now trace.now event) }
+    ensures cause { IfOk result (λ cause. cause ≡ cause_of_event circuit.now trace.now event) }
+    ensures within { IfOk result (λ cause. IsWithin (length trace.now.events) cause) }
 {
     let parts = circuit.parts();
     let event = trace.event(event);
