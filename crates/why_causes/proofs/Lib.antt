@@ -1,7 +1,10 @@
 -- The modules of this folder.
 mod BestLaws
+pub mod CauseLaws
+pub mod ChainLaws
 pub mod DelayLaws
 mod Examples
+pub mod FittingLaws
 pub mod LatestLaws
 pub mod Lists
 pub mod PathLaws

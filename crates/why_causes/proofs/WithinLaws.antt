@@ -29,7 +29,7 @@ filter-in n k net time (e ∷ es) l = at (is_before net time (k, e)) refl (filte
     at true h rest = let t = in-time (e.net == net) (nat_lt e.time time) h in ((omega (arith, l), grind (arith, nat_tests, t)), rest)
     at false h rest = rest
 
-last-each : {A : Type 0} (P : A → Type 0) (o : Option A) (xs : List A) → IfSome o P → AllByRecursion P xs → IfSome (last_or o xs) P
+pub last-each : {A : Type 0} (P : A → Type 0) (o : Option A) (xs : List A) → IfSome o P → AllByRecursion P xs → IfSome (last_or o xs) P
 last-each P o [] h k = h
 last-each P o (x ∷ xs) h k = last-each P (Some x) xs k.0 k.1
 
