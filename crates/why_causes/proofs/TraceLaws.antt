@@ -4,7 +4,9 @@ use Rattle.std.specs.List.{enumerate_from, last_or, AllByRecursion, AllPairs}
 use Rattle.std.specs.List.Sorted.{IsPartitionedBy, IsPartitionPoint}
 use Rattle.std.proofs.Common.{sym, ◌∙◌, ap, subst, arith, append_assoc, length-append, length-take-le, get_or-take}
 use Rattle.std.proofs.lemmas.Bool.Decides.{nat_tests}
-use Rattle.std.proofs.lemmas.List.{length-map}
+use Rattle.std.proofs.lemmas.List.{length-map, map-append}
+use Rattle.std.proofs.lemmas.List.Elements.{All-map}
+use Rattle.std.proofs.lemmas.List.FromFn.{length-enumerate_from, get_or-enumerate_from}
 use Rattle.std.proofs.lemmas.Option.{get_or_from_slice_get}
 use Rattle.sg_logic.specs.declared.values.Value.{Value}
 use Rattle.sg_logic.specs.declared.values.Value.TheVariants.{X}
@@ -14,7 +16,7 @@ use Rattle.sg_circuit.specs.Pins.{elements_on}
 use Rattle.why_causes.specs.declared.events.Event.{Event}
 use Rattle.why_causes.specs.Waveform.{Waveform, is_before, last_before}
 use Rattle.why_causes.specs.Traces.{pins_of, comes_before, holds_before, IsTrace}
-use Rattle.why_causes.proofs.Lists.{each-weaker, each-filter, filter-both}
+use Rattle.why_causes.proofs.Lists.{each-filter, filter-both, numbered-more, numbered-all}
 
 abbrev pub of_net : ℕ → ℕ × Event → Bool
 of_net net e = e.1.net == net
@@ -236,3 +238,20 @@ module _ (w : Waveform) (first : List Value) (events : List Event) (index : List
   pub last-is : (time count d : ℕ) (f : Event) → take count row ≡ filter (holds_before events time) row → count ≤ length row → (count ≡ 0 → ⊥)
       → Some (slice_index_or row (count - 1) d, slice_index_or events (slice_index_or row (count - 1) d) f) ≡ last_before w net time
   last-is time count d f counted l some = last-is-in events net time count d row f own counted l some ∙ ap (λ (v : Waveform). last_before v net time) view
+
+-- one pin more
+pub pins-more : (events : List Event) (i : ℕ) (d : Event) (pins new : List Pin) → i < length events → pins ≡ map pin_of (take i (enumerate_from 0 events)) → new ≡ pins ++ pin_of (i, slice_index_or events i d) ∷ []
+    → new ≡ map pin_of (take (i + 1) (enumerate_from 0 events))
+pins-more events i d pins new l e n =
+    n ∙ (ap (λ ps. ps ++ pin_of (i, slice_index_or events i d) ∷ []) e
+    ∙ (sym (map-append pin_of (take i (enumerate_from 0 events)) ((i, slice_index_or events i d) ∷ [])) ∙ ap (map pin_of) (sym (numbered-more events i (slice_index_or events i d) d l refl))))
+
+pub pins-all : (events : List Event) (i : ℕ) (pins : List Pin) → length events ≤ i → pins ≡ map pin_of (take i (enumerate_from 0 events)) → pins ≡ pins_of events
+pins-all events i pins l e = e ∙ ap (map pin_of) (numbered-all events i l)
+
+pub pins-within : (events : List Event) (n : ℕ) (pins : List Pin) → pins ≡ pins_of events → All (λ e. e.net < n) events → All (λ p. p.net < n) pins
+pins-within events n pins is h =
+    subst (All (λ (p : Pin). p.net < n)) (sym is) (All-map (λ (p : Pin). p.net < n) pin_of (enumerate_from 0 events)
+    (λ k d l.
+        let there : k < length events = subst (λ m. k < m) (length-enumerate_from 0 events) l in
+        subst (λ (e : ℕ × Event). e.1.net < n) (sym (get_or-enumerate_from 0 events k d there)) (h k d.1 there)))
