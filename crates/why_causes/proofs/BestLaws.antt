@@ -90,6 +90,7 @@ ran {A} beats over order b before (x ∷ xs) h = at (beats x b) refl
       is = ap (λ o. run beats o xs) (k ∙ e) ∙ r.is;
       first = subst (λ ys. IsFirstBest beats ys r.result) (append_assoc before (x ∷ []) xs) r.first;
     }
+
     at : (c : Bool) → beats x b ≡ c → (beats x b ≡ true → Ran beats x (before ++ x ∷ []) xs) → (beats x b ≡ false → Ran beats b (before ++ x ∷ []) xs) → Ran beats b before (x ∷ xs)
     at true e yes_then no_then = moved x (Some x) refl (ap (λ d. cond d (Some x) (Some b)) e) (yes_then e)
     at false e yes_then no_then = moved b (Some b) refl (ap (λ d. cond d (Some x) (Some b)) e) (no_then e)

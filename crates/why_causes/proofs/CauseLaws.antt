@@ -1,6 +1,6 @@
 -- A cause is an event of the run.
-use Rattle.std.specs.Prelude.{◌≡◌, ℕ, ◌+◌, ◌<◌, ◌==◌, Bool, true, false, cond, List, [], ◌∷◌, filter, filter_map, length, map, Option, Some, None, IfSome, Result, Ok, Err, IfOk, slice_get}
-use Rattle.std.specs.List.{enumerate_from, last_or, AllByRecursion, list_all}
+use Rattle.std.specs.Prelude.{◌≡◌, ℕ, ◌+◌, ◌<◌, ◌==◌, Bool, true, false, cond, List, [], ◌∷◌, filter_map, length, map, Option, Some, None, IfSome, Result, Ok, Err, IfOk, slice_get}
+use Rattle.std.specs.List.{enumerate_from, last_or, AllByRecursion}
 use Rattle.std.specs.Option.{option_and_then}
 use Rattle.std.proofs.Common.{sym, subst}
 use Rattle.sg_logic.specs.declared.values.Value.{Value}
@@ -16,8 +16,8 @@ use Rattle.why_causes.specs.declared.links.Rule.TheVariants as rule
 use Rattle.why_causes.specs.declared.links.Cause.{Cause}
 use Rattle.why_causes.specs.declared.links.Cause.TheVariants.{Nothing, NeverSet, Linked}
 use Rattle.why_causes.specs.Waveform.{Waveform, value_before, value_at}
-use Rattle.why_causes.specs.Candidates.{time_of, inputs_of, last_of, last_of_each, latest}
-use Rattle.why_causes.specs.Causes.{found, never_set, became_first, never_or_first, by_unknown, unknown_inputs, by_unknown_inputs, exactly, path_delay, limit_of, through_path, picked_path, by_path, last_inputs, delay_of, stepping, last_step, by_primitive, by_inputs, is_step, or_else, cause_through}
+use Rattle.why_causes.specs.Candidates.{time_of, inputs_of, last_of, last_of_each}
+use Rattle.why_causes.specs.Causes.{found, never_set, became_first, never_or_first, by_unknown, unknown_inputs, by_unknown_inputs, exactly, path_delay, limit_of, through_path, picked_path, by_path, last_inputs, delay_of, stepping, last_step, by_inputs, is_step, or_else, cause_through}
 use Rattle.why_causes.specs.Links.{IsWithin}
 use Rattle.why_causes.proofs.Lists.{each-filter}
 use Rattle.why_causes.proofs.WithinLaws.{last-of-in, each-mapped, last-each}
@@ -72,6 +72,7 @@ through-is w change path = at (last_of w (limit_of (path_delay path.1 change) ch
     kept : (c : Candidate) (b : Bool) → Is (length w.events) c → IfSome (cond b (Some c) None) (Is (length w.events))
     kept c true h = h
     kept c false h = tt
+
     at : (o : Option Candidate) → IfSome o (Is (length w.events)) → IfSome (option_and_then (exactly (path_delay path.1 change) change) o) (Is (length w.events))
     at None h = tt
     at (Some c) h = kept c (time_of c + path_delay path.1 change == change.time) h
@@ -92,7 +93,7 @@ inputs-are w element change = each-filter (Is (length w.events)) _ (last_of_each
 step-is : (w : Waveform) (n : ℕ) (udp : Primitive) (nets : List ℕ) (state : Value) (cs : List Candidate) → AllByRecursion (Is n) cs → IfSome (last_step w udp nets state cs) (Is n)
 step-is w n udp nets state [] h = tt
 step-is w n udp nets state (c ∷ cs) h =
-    last-each (Is n) (last_or None (c ∷ cs)) (stepping w udp nets state (time_of c) (c ∷ cs)) (last-each (Is n) None (c ∷ cs) tt h) 
+    last-each (Is n) (last_or None (c ∷ cs)) (stepping w udp nets state (time_of c) (c ∷ cs)) (last-each (Is n) None (c ∷ cs) tt h)
     (each-filter (Is n) (λ d. is_step udp (map (λ k. value_before w k (time_of c)) nets) (map (λ k. value_at w k (time_of c)) nets) state d.input) (c ∷ cs) h)
 
 latest-within : (w : Waveform) (number : ℕ) (element : Element) (change : Change) (by : Rule) → IsWithin (length w.events) (found number change by (slice_get (last_inputs w element change) 0))

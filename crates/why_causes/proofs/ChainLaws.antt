@@ -1,5 +1,5 @@
 -- A chain of causes, one event more at a time; and there is one chain.
-use Rattle.std.specs.Prelude.{◌≡◌, ℕ, zero, suc, ◌+◌, ◌<◌, ◌==◌, ◌||◌, Bool, true, false, cond, List, [], ◌∷◌, ◌++◌, length, replicate, Option, Some, None, slice_index_or, slice_set, refl}
+use Rattle.std.specs.Prelude.{◌≡◌, ℕ, zero, suc, ◌<◌, ◌==◌, ◌||◌, Bool, true, false, cond, List, [], ◌∷◌, ◌++◌, length, replicate, Some, None, slice_index_or, slice_set, refl}
 use Rattle.std.proofs.Common.{sym, ◌∙◌, ap, subst, arith, append_assoc, append-nil, get_or-set_same, get_or-set_other, length-set, eqb-true, unwrap_or}
 use Rattle.std.proofs.lemmas.Bool.Decides.{nat_tests}
 use Rattle.sg_circuit.specs.Circuit.{Circuit}
@@ -58,7 +58,6 @@ different : (a b : ℕ) → (a == b) ≡ false → a ≡ b → ⊥
 different a b e same = grind (arith, nat_tests, e, same)
 
 module _ (circuit : Circuit) (w : Waveform) (event : ℕ) (links : List Link) (seen : List Bool) (last : ℕ) (going : Going circuit w event links seen last) where
-
   is-unmarked : slice_index_or seen last false ≡ false
   is-unmarked = going.marked last going.within ∙ going.fresh
 
@@ -83,6 +82,7 @@ module _ (circuit : Circuit) (w : Waveform) (event : ℕ) (links : List Link) (s
       flagged : (link : Link) (b : Bool) → slice_index_or (slice_set seen last true) link.event false ≡ b → None ≡ cond b None (Some link) → b ≡ true
       flagged link true e h = refl
       flagged link false e h = absurd (cc)
+
       at : (found : Cause) → IsWithin (length w.events) found → None ≡ new_link (slice_set seen last true) found → EndsWith (last ∷ going.before) found
       at Nothing l h = tt
       at (NeverSet e i) l h = tt
@@ -103,9 +103,11 @@ module _ (circuit : Circuit) (w : Waveform) (event : ℕ) (links : List Link) (s
         rest = λ rest end h. subst (λ ls. IsChain circuit w event ls end) (sym (ap (λ ls. ls ++ rest) more ∙ append_assoc links (link ∷ []) rest))
             (going.rest (link ∷ rest) end (sym is ∙ ap Linked same, subst (λ (x : Link). has x.event (last ∷ going.before) ≡ false) same (sym (now-marked other.event l) ∙ f), h));
       }
+
       flagged : (other : Link) (b : Bool) → Some link ≡ cond b None (Some other) → (b ≡ false) × (other ≡ link)
       flagged other true h = absurd (cc)
       flagged other false h = (refl, sym (ap (λ o. unwrap_or o link) h))
+
       at : (found : Cause) → found ≡ cause circuit w last → IsWithin (length w.events) found → Some link ≡ new_link (slice_set seen last true) found → Going circuit w event new (slice_set seen last true) link.event
       at Nothing is l h = absurd (cc)
       at (NeverSet e i) is l h = absurd (cc)
@@ -131,6 +133,7 @@ same-links circuit w before event (l ∷ ls) (o ∷ os) end other h k =
     link_or d Nothing = d
     link_or d (NeverSet e i) = d
     link_or d (Linked x) = x
+
     linked : (x y : Link) → Linked x ≡ Linked y → x ≡ y
     linked x y e = ap (link_or x) e
 

@@ -1,11 +1,11 @@
 -- A timing's delay, read from a table's delays.
 use Rattle.std.specs.Prelude.{◌≡◌, ℕ, zero, suc, ◌<◌, List, [], ◌∷◌, length, map, position, Some, slice_index_or, refl}
-use Rattle.std.proofs.Common.{sym, ◌∙◌, ap, arith}
+use Rattle.std.proofs.Common.{◌∙◌, ap, arith}
 use Rattle.sg_delay.specs.declared.limits.Limit.{Limit}
 use Rattle.sg_logic.specs.declared.values.Value.{Value}
 use Rattle.sg_logic.specs.Transitions.{goes, transitions}
 use Rattle.sg_circuit.specs.Timings.{Timing, timing_at, timing_between}
-use Rattle.sg_circuit.specs.TimingsSeen.{limit_seen, timings_of}
+use Rattle.sg_circuit.specs.TimingsSeen.{timings_of}
 
 delay-in : (delays : List ℕ) (limits : List Limit) (place d : ℕ) (blank : Timing) → place < length (timings_of delays limits) → slice_index_or delays place d ≡ (slice_index_or (timings_of delays limits) place blank).delay
 delay-in [] limits place d blank l = absurd (omega (arith, l))

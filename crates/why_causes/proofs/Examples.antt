@@ -1,5 +1,5 @@
 -- Worked examples. Net 0 is a and net 1 is b, which the stimulus sets; other nets are said.
-use Rattle.std.proofs.Common.{◌≡◌, refl, ℕ, pos, true, false, List, [], ◌∷◌, Option, Some, None}
+use Rattle.std.proofs.Common.{◌≡◌, refl, ℕ, pos, true, List, [], ◌∷◌, Some, None}
 use Rattle.std.specs.Prelude.{replicate}
 use Rattle.sg_logic.specs.declared.values.Value.{Value}
 use Rattle.sg_logic.specs.declared.values.Value.TheVariants.{Zero, One, X}
@@ -7,7 +7,6 @@ use Rattle.sg_logic.specs.declared.gates.GateKind.TheVariants as gate
 use Rattle.sg_delay.specs.declared.limits.PulseStyle.TheVariants.{OnEvent}
 use Rattle.udp_rows.specs.declared.cells.Cell.{Cell}
 use Rattle.udp_rows.specs.declared.cells.RawRow.{RawRow}
-use Rattle.sg_circuit.specs.Timings.{Timing}
 use Rattle.sg_circuit.specs.Paths as specify
 use Rattle.sg_circuit.specs.declared.nets.Net.{Net}
 use Rattle.sg_circuit.specs.declared.nets.Driver.{Driver}

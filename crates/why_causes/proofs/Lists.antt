@@ -1,7 +1,7 @@
 -- Lists whose elements are numbered, and the last element of a list.
-use Rattle.std.specs.Prelude.{◌≡◌, ℕ, suc, ◌+◌, ◌<◌, ◌≤◌, ◌&&◌, Bool, true, false, cond, not, List, [], ◌∷◌, ◌++◌, length, map, take, filter, filter_map, Option, Some, None, slice_get, slice_index_or, refl}
+use Rattle.std.specs.Prelude.{◌≡◌, ℕ, ◌+◌, ◌<◌, ◌≤◌, ◌&&◌, Bool, true, false, cond, List, [], ◌∷◌, ◌++◌, length, take, filter, filter_map, Option, Some, None, slice_index_or, refl}
 use Rattle.std.specs.List.{enumerate_from, last_or, AllByRecursion, cons_option, list_all}
-use Rattle.std.proofs.Common.{sym, ◌∙◌, ap, subst, arith, take_all, append-nil}
+use Rattle.std.proofs.Common.{sym, ◌∙◌, ap, subst, arith, take_all}
 use Rattle.std.proofs.lemmas.List.FromFn.{length-enumerate_from, get_or-enumerate_from}
 use Rattle.std.proofs.lemmas.List.{take_more}
 use Rattle.std.proofs.lemmas.List.Elements.{filter-append, filter_map-append}

@@ -58,9 +58,10 @@ steps-more test steps i flag new m h f e = (ap length e ∙ long steps flag ∙ 
     long : (bs : List Bool) (b : Bool) → length (bs ++ b ∷ []) ≡ length bs + 1
     long [] b = refl
     long (x ∷ xs) b = let e = long xs b in omega (arith, e)
+
     at : (bs : List Bool) (i k : ℕ) (b : Bool) → length bs ≡ i → ((k : ℕ) → k < i → slice_index_or bs k false ≡ test k) → b ≡ test i → k < i + 1 → slice_index_or (bs ++ b ∷ []) k false ≡ test k
     at bs i k b m h f l = elim (below-or-at i k l) [
-      inl below ↦ get_or-append bs (b ∷ []) false k (omega (arith, below, m)) ∙ h k below
+      | inl below ↦ get_or-append bs (b ∷ []) false k (omega (arith, below, m)) ∙ h k below
       | inr same ↦ get_or_push bs b false k (m ∙ sym same) ∙ (f ∙ ap test (sym same))
     ]
 
@@ -90,12 +91,15 @@ steps-of-one steps w limit time i n = at (last_before w n limit)
     nothing : (b : Bool) → ◌≡◌ {A = List Candidate} [] (cons_option (cond b None None) [])
     nothing true = refl
     nothing false = refl
+
     something : (c : Candidate) (b : Bool) → cond b (c ∷ []) [] ≡ cons_option (cond b (Some c) None) []
     something c true = refl
     something c false = refl
+
     kept : (c : Candidate) (t : Bool) → c.input ≡ i → filter (λ (c : Candidate). slice_index_or steps c.input false) (cons_option (cond t (Some c) None) []) ≡ cons_option (cond (slice_index_or steps i false) (cond t (Some c) None) None) []
     kept c true e = ap (λ k. cond (slice_index_or steps k false) (c ∷ []) []) e ∙ something c (slice_index_or steps i false)
     kept c false e = nothing (slice_index_or steps i false)
+
     at : (o : Option (ℕ × Event)) → filter (λ (c : Candidate). slice_index_or steps c.input false) (cons_option (option_and_then (kept_at time) (option_map (λ (e : ℕ × Event). record { input = i; number = e.0; event = e.1 }) o)) [])
         ≡ cons_option (cond (slice_index_or steps i false) (option_and_then (kept_at time) (option_map (λ (e : ℕ × Event). record { input = i; number = e.0; event = e.1 }) o)) None) []
     at None = nothing (slice_index_or steps i false)
@@ -157,12 +161,14 @@ others cs s each all d l up = at (list_all (λ (e : Candidate). nat_le (time_of 
   where
     same : (a b : ℕ) → nat_le a b ≡ true → nat_le b a ≡ true → true ≡ (a == b)
     same a b h k = grind (arith, nat_tests)
+
     other : (b : Bool) → (time_of d == s) ≡ b → list_all (λ (e : Candidate). nat_le (time_of e) (time_of d)) cs ≡ false → false ≡ b
     other true e f = absurd (clash (sym (ap (λ n. list_all (λ (x : Candidate). nat_le (time_of x) n) cs) (eqb-true (time_of d) s e)) ∙ f))
       where
         clash : list_all (λ (x : Candidate). nat_le (time_of x) s) cs ≡ false → ⊥
         clash g = cc
     other false e f = refl
+
     at : (b : Bool) → list_all (λ (e : Candidate). nat_le (time_of e) (time_of d)) cs ≡ b → b ≡ (time_of d == s)
     at true e = same (time_of d) s l (up e)
     at false e = other (time_of d == s) refl e
@@ -197,6 +203,7 @@ at-time w limit s (i ∷ is) = at (last_of w limit i) (at-time w limit s is)
     kept : (c : Candidate) (t : Bool) (cs ds : List Candidate) → cs ≡ ds → cond t (c ∷ cs) cs ≡ cons_option (cond t (Some c) None) ds
     kept c true cs ds e = ap (λ es. c ∷ es) e
     kept c false cs ds e = e
+
     at : (o : Option Candidate) → filter (λ (d : Candidate). time_of d == s) (filter_map (last_of w limit) is) ≡ filter_map (last_at w limit s) is
         → filter (λ (d : Candidate). time_of d == s) (cons_option o (filter_map (last_of w limit) is)) ≡ cons_option (option_and_then (kept_at s) o) (filter_map (last_at w limit s) is)
     at None rest = rest
@@ -209,9 +216,11 @@ inputs-below w limit s k n (net ∷ nets) l = at (last_before w net limit) (inpu
   where
     Rest : List Candidate → Type 0
     Rest cs = AllByRecursion (λ (c : Candidate). c.input < n) cs
+
     kept : (c : Candidate) (t : Bool) (cs : List Candidate) → c.input ≡ k → AllByRecursion (λ (c : Candidate). c.input < n) cs → AllByRecursion (λ (c : Candidate). c.input < n) (cons_option (cond t (Some c) None) cs)
     kept c true cs e rest = (omega (arith, l, e), rest)
     kept c false cs e rest = rest
+
     at : (o : Option (ℕ × Event)) → AllByRecursion (λ (c : Candidate). c.input < n) (filter_map (last_at w limit s) (enumerate_from (k + 1) nets))
         → AllByRecursion (λ (c : Candidate). c.input < n) (cons_option (option_and_then (kept_at s) (option_map (λ (e : ℕ × Event). record { input = k; number = e.0; event = e.1 }) o)) (filter_map (last_at w limit s) (enumerate_from (k + 1) nets)))
     at None rest = rest
@@ -237,16 +246,17 @@ the-step w udp inputs state limit first old new steps f o n are =
     let many : length old ≡ length inputs = ap length o ∙ length-map inputs (λ n. value_before w n s) in
     let below = inputs-below w limit s 0 (length old) inputs (omega (arith, many)) in
     let flags = filter-same (λ (c : Candidate). slice_index_or steps c.input false) (λ (c : Candidate). is_step udp (map (λ n. value_before w n s) inputs) (map (λ n. value_before w n (s + 1)) inputs) state c.input)
-        (filter_map (last_at w limit s) numbered)
-        (each-weaker (λ (c : Candidate). c.input < length old) _ (filter_map (last_at w limit s) numbered)
-        (λ c l. are.each c.input l ∙ (ap (λ vs. is_step udp vs new state c.input) o ∙ ap (λ vs. is_step udp (map (λ n. value_before w n s) inputs) vs state c.input) n)) below) in
+    (filter_map (last_at w limit s) numbered)
+    (each-weaker (λ (c : Candidate). c.input < length old) _ (filter_map (last_at w limit s) numbered)
+    (λ c l. are.each c.input l ∙ (ap (λ vs. is_step udp vs new state c.input) o ∙ ap (λ vs. is_step udp (map (λ n. value_before w n s) inputs) vs state c.input) n)) below) in
     ap (last_or (last_or None (filter_map (last_at w limit s) numbered))) flags ∙ at (latest cs) (sym own) (sym f)
   where
     head : (c first : Candidate) → Some c ≡ Some first → c ≡ first
     head c first h = some-some h
+
     at : (ls : List Candidate) → filter_map (last_at w limit (time_of first)) (enumerate_from 0 inputs) ≡ ls → slice_get ls 0 ≡ Some first
         → last_or (last_or None (filter_map (last_at w limit (time_of first)) (enumerate_from 0 inputs))) (filter (λ (c : Candidate). is_step udp (map (λ n. value_before w n (time_of first)) inputs) (map (λ n. value_before w n (time_of first + 1)) inputs) state c.input)
-            (filter_map (last_at w limit (time_of first)) (enumerate_from 0 inputs)))
+        (filter_map (last_at w limit (time_of first)) (enumerate_from 0 inputs)))
         ≡ last_step w udp inputs state ls
     at [] e h = absurd (none-some h)
     at (c ∷ cs) e h =

@@ -1,5 +1,5 @@
 -- A net's events, found by the numbers that stand under it.
-use Rattle.std.specs.Prelude.{◌≡◌, ℕ, zero, suc, ◌+◌, ◌-◌, ◌<◌, ◌≤◌, ◌==◌, nat_lt, ◌&&◌, Bool, true, false, cond, All, List, [], ◌∷◌, ◌++◌, length, map, take, filter, Option, Some, None, slice_get, slice_index_or, refl}
+use Rattle.std.specs.Prelude.{◌≡◌, ℕ, zero, suc, ◌+◌, ◌-◌, ◌<◌, ◌≤◌, ◌==◌, nat_lt, Bool, true, false, cond, All, List, [], ◌∷◌, ◌++◌, length, map, take, filter, Option, Some, None, slice_get, slice_index_or, refl}
 use Rattle.std.specs.List.{enumerate_from, last_or, AllByRecursion, AllPairs}
 use Rattle.std.specs.List.Sorted.{IsPartitionedBy, IsPartitionPoint}
 use Rattle.std.proofs.Common.{sym, ◌∙◌, ap, subst, arith, append_assoc, length-append, length-take-le, get_or-take}
@@ -49,9 +49,10 @@ get-mid (x ∷ xs) e rest =
 
 all-stand-from : (before rest : List Event) (k : ℕ) → k ≡ length before → AllByRecursion (Stands (before ++ rest)) (enumerate_from k rest)
 all-stand-from before [] k is = tt
-all-stand-from before (e ∷ es) k is =
-    (ap (slice_get (before ++ e ∷ es)) is ∙ get-mid before e es,
-    subst (λ xs. AllByRecursion (Stands xs) (enumerate_from (k + 1) es)) (append_assoc before (e ∷ []) es) (all-stand-from (before ++ e ∷ []) es (k + 1) (let m = length-append before (e ∷ []) in omega (arith, is, m))))
+all-stand-from before (e ∷ es) k is = (
+  ap (slice_get (before ++ e ∷ es)) is ∙ get-mid before e es,
+  subst (λ xs. AllByRecursion (Stands xs) (enumerate_from (k + 1) es)) (append_assoc before (e ∷ []) es) (all-stand-from (before ++ e ∷ []) es (k + 1) (let m = length-append before (e ∷ []) in omega (arith, is, m))),
+)
 
 all-stand : (events : List Event) → AllByRecursion (Stands events) (enumerate_from 0 events)
 all-stand events = all-stand-from [] events 0 refl
@@ -215,7 +216,6 @@ up-to-point p (n ∷ ns) (suc count) h l =
 -- a net's events in a trace
 module _ (w : Waveform) (first : List Value) (events : List Event) (index : List (List ℕ)) (net : ℕ) (row : List ℕ) (trace : IsTrace first events index) (view : record { first = first; events = events } ≡ w)
     (within : net < length w.first) (is : row ≡ readers_at index net) where
-
   own : row ≡ elements_on net (pins_of events)
   own =
       let same : length first ≡ length w.first = ap (λ (v : Waveform). length v.first) view in
@@ -253,5 +253,5 @@ pub pins-within : (events : List Event) (n : ℕ) (pins : List Pin) → pins ≡
 pins-within events n pins is h =
     subst (All (λ (p : Pin). p.net < n)) (sym is) (All-map (λ (p : Pin). p.net < n) pin_of (enumerate_from 0 events)
     (λ k d l.
-        let there : k < length events = subst (λ m. k < m) (length-enumerate_from 0 events) l in
-        subst (λ (e : ℕ × Event). e.1.net < n) (sym (get_or-enumerate_from 0 events k d there)) (h k d.1 there)))
+    let there : k < length events = subst (λ m. k < m) (length-enumerate_from 0 events) l in
+    subst (λ (e : ℕ × Event). e.1.net < n) (sym (get_or-enumerate_from 0 events k d there)) (h k d.1 there)))

@@ -1,8 +1,7 @@
 -- Candidates are events, and lie before the time up to which they are looked for.
 use Rattle.std.specs.Prelude.{◌≡◌, ℕ, ◌+◌, ◌<◌, ◌≤◌, ◌==◌, nat_lt, nat_le, ◌&&◌, Bool, true, false, cond, List, [], ◌∷◌, filter, filter_map, length, Option, Some, None, IfSome, option_map, slice_get, refl}
 use Rattle.std.specs.List.{enumerate_from, last_or, AllByRecursion, cons_option, list_all}
-use Rattle.std.specs.Option.{option_and_then}
-use Rattle.std.proofs.Common.{sym, ◌∙◌, ap, subst, arith}
+use Rattle.std.proofs.Common.{arith}
 use Rattle.std.proofs.lemmas.Bool.Decides.{nat_tests}
 use Rattle.why_causes.specs.declared.events.Event.{Event}
 use Rattle.why_causes.specs.declared.changes.Candidate.{Candidate}
@@ -24,6 +23,7 @@ filter-in n k net time (e ∷ es) l = at (is_before net time (k, e)) refl (filte
     in-time : (a b : Bool) → (a && b) ≡ true → b ≡ true
     in-time true b h = h
     in-time false b h = absurd (cc)
+
     at : (b : Bool) → is_before net time (k, e) ≡ b → AllByRecursion (IsIn n time) (filter (is_before net time) (enumerate_from (k + 1) es))
         → AllByRecursion (IsIn n time) (cond b ((k, e) ∷ filter (is_before net time) (enumerate_from (k + 1) es)) (filter (is_before net time) (enumerate_from (k + 1) es)))
     at true h rest = let t = in-time (e.net == net) (nat_lt e.time time) h in ((omega (arith, l), grind (arith, nat_tests, t)), rest)

@@ -107,7 +107,12 @@ fn cause_through(
 
 /// The cause of an event of a circuit's run. Takes time in proportion to the inputs of the element that drives the net, or its paths,
 /// times a logarithm of their events; and memory for the inputs of a sequential primitive.
-pub fn cause(alloc: Global, circuit: &Circuit, trace: &Trace<'_>, event: u32) -> Result<Cause, NoMemory>
+pub fn cause(
+    alloc: Global,
+    circuit: &Circuit,
+    trace: &Trace<'_>,
+    event: u32,
+) -> Result<Cause, NoMemory>
     requires nets { length trace.now.first ≡ length circuit.now.nets }
     requires event { event < length trace.now.events }
     ensures cause { IfOk result (λ cause. cause ≡ cause_of_event circuit.now trace.now event) }

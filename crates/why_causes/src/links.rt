@@ -36,10 +36,7 @@ pub enum Cause {
     /// None: no element drives the net, or no event of an input comes into question.
     Nothing,
     /// An input that was x from the start.
-    NeverSet {
-        element: u32,
-        input: usize,
-    },
+    NeverSet { element: u32, input: usize },
     Linked(Link),
 }
 

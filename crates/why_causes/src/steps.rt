@@ -101,13 +101,7 @@ fn steps_of(
 }
 
 // The last event of an input before a limit, if it is at a time.
-fn last_at(
-    trace: &Trace<'_>,
-    limit: u64,
-    time: u64,
-    input: usize,
-    net: NetId,
-) -> Option<Candidate>
+fn last_at(trace: &Trace<'_>, limit: u64, time: u64, input: usize, net: NetId) -> Option<Candidate>
     requires { net < length trace.now.first }
     ensures { result ≡ last_of_input_at trace.now limit time (input, net) }
 {

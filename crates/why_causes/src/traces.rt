@@ -79,7 +79,11 @@ impl<'a> Trace<'a> {
     /// event, in proportion to both.
     ///
     /// `NoMemory` where there is no memory for it, or where there are 2^32 events.
-    pub fn new(alloc: Global, first: &'a [Value], events: &'a [Event]) -> Result<Trace<'a>, NoMemory>
+    pub fn new(
+        alloc: Global,
+        first: &'a [Value],
+        events: &'a [Event],
+    ) -> Result<Trace<'a>, NoMemory>
         requires few { length first.now < 2 ^ 32 }
         requires nets { All (λ e. e.net < length first.now) events.now }
         requires times { All (λ e. e.time < 2 ^ 60) events.now }

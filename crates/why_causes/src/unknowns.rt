@@ -92,12 +92,7 @@ fn earlier(best: Option<Candidate>, other: Option<Candidate>) -> Option<Candidat
 }
 
 // Of the inputs that are x at a time, and were not from the start, the one that became so first.
-fn became_first(
-    nets: &[Net],
-    trace: &Trace<'_>,
-    time: u64,
-    inputs: &[NetId],
-) -> Option<Candidate>
+fn became_first(nets: &[Net], trace: &Trace<'_>, time: u64, inputs: &[NetId]) -> Option<Candidate>
     requires nets { length nets.now ≡ length trace.now.first }
     requires inputs { All (λ n. n < length trace.now.first) inputs.now }
     requires time { time < 2 ^ 60 }

@@ -1,6 +1,5 @@
 use Rattle.std.proofs.Common.{subst, sym, length, ◌<◌}
 use Rattle.std.specs.Prelude.{All}
-use Rattle.why_causes.specs.Fitting.{Fits}
 use Rattle.why_causes.proofs.FittingLaws.{fits}
 use Rattle.why_causes.proofs.causes.cause_through.Goals.{After-index-element}
 use Rattle.why_causes.proofs.causes.cause_through.Goals as goal

@@ -1,4 +1,4 @@
-use Rattle.std.proofs.Common.{refl, suc, arith}
+use Rattle.std.proofs.Common.{refl}
 use Rattle.why_causes.proofs.StepLaws.{is-step-by, mixed-more}
 use Rattle.why_causes.proofs.steps.is_step.Goals as goal
 
