@@ -1,24 +1,26 @@
 // A run, watched.
-ghost use Rattle.std.specs.Prelude.{◌≡◌, ◌<◌, IfOk, map};
+ghost use Rattle.std.specs.Prelude.{◌≡◌, ◌<◌, ◌≤◌, ◌^◌, [], All, IfOk, length, map};
+ghost use Rattle.std.specs.List.{AllPairs};
 ghost use Rattle.sg_stimulus.specs.Applied.{IsApplied};
 ghost use Rattle.sg_stimulus.specs.Seen.{stimulus_seen};
 ghost use Rattle.time_checks.specs.Seen.{violation_seen};
+ghost use Rattle.sim_rounds.specs.Setting.{setting_of};
 ghost use Rattle.sim_rounds.specs.Simulated.{first_state, run_of_circuit};
 ghost use Rattle.why_history.specs.Events.{AreEvents};
-ghost use Rattle.why_history.specs.Ends.{IsEnd, found_in};
+ghost use Rattle.why_history.specs.Ends.{found_in, HasRun, IsEnd};
 
 use crate::history::History;
 use event_wheel::Wheel;
 use sg_circuit::{Circuit, NetId};
-use sg_io::MemoryShelf;
+use sg_io::{MemoryShelf, Shelf};
 use sg_steps::Steps;
 use sg_stimulus::Stimulus;
 use sg_text::NoMemory;
-use sim_rounds::Sim;
-use sim_times::SimEnd;
+use sim_rounds::{Finished, Sim};
+use sim_times::{SimEnd, Watch};
 use std::alloc::Global;
 use std::marker::Brand;
-use std::sync::ledger::Blank;
+use std::sync::ledger::{Blank, Ledger};
 use time_checks::Violation;
 use why_causes::Event;
 
@@ -53,6 +55,31 @@ fn spent_of(end: Result<(), SimEnd>) -> Result<Option<Spent>, NoMemory>
     }
 }
 
+// The run of a circuit, told to a watcher.
+fn simulate<S: Shelf, W: Watch<S>, L: Ledger>(
+    alloc: Global,
+    circuit: &Circuit,
+    stimulus: &Stimulus,
+    bound: u32,
+    shelf: &mut S,
+    watcher: &mut W,
+    blank: Blank,
+) -> Result<Finished, NoMemory>
+    requires name { blank.name ≡ L.name }
+    requires parts { blank.parts ≡ L.parts }
+    requires some { 0 < blank.parts }
+    requires bound { 0 < bound }
+    requires nets { length (W.circuit watcher.old).nets ≤ length circuit.now.nets }
+    requires none_told { W.stands watcher.old shelf.old [] }
+    requires applied { IsApplied circuit.now (stimulus_seen stimulus.now) }
+    ensures { IfOk result (λ f. HasRun W.stands W.broken watcher.old watcher.new shelf.old shelf.new (setting_of circuit.now (stimulus_seen stimulus.now) bound) f) }
+{
+    let agenda = Wheel::new(alloc, BUCKETS, circuit.parts().elements.len() as u32)?;
+    let sim = Sim::new(alloc, circuit, agenda)?;
+    let mut steps = Steps::<L>::new(blank);
+    Ok(sim.run(stimulus, bound, shelf, watcher, &mut steps))
+}
+
 /// Simulates a circuit under a stimulus, with at most `bound` rounds a time, and keeps each change of its nets: what a watcher
 /// of the run is told. Takes memory for them, 16 bytes a change.
 pub fn watch(
@@ -64,15 +91,23 @@ pub fn watch(
     requires bound { 0 < bound }
     requires applied { IsApplied circuit.now (stimulus_seen stimulus.now) }
     ensures events { IfOk result (λ w. AreEvents (first_state circuit.now).values (run_of_circuit circuit.now bound (stimulus_seen stimulus.now)) w.events.items) }
+    ensures nets { IfOk result (λ w. All (λ e. e.net < length circuit.now.nets) w.events.items) }
+    ensures times { IfOk result (λ w. All (λ e. e.time < 2 ^ 60) w.events.items) }
+    ensures rise { IfOk result (λ w. AllPairs (λ d e. d.time ≤ e.time) w.events.items) }
     ensures violations { IfOk result (λ w. map (λ v. violation_seen v) w.violations.items ≡ (run_of_circuit circuit.now bound (stimulus_seen stimulus.now)).run.violations) }
     ensures spent { IfOk result (λ w. found_in w.spent ≡ (run_of_circuit circuit.now bound (stimulus_seen stimulus.now)).spent) }
 {
     let mut shelf = MemoryShelf::new(alloc);
     let mut history = History::new(alloc, circuit);
-    let agenda = Wheel::new(alloc, BUCKETS, circuit.parts().elements.len() as u32)?;
-    let sim = Sim::new(alloc, circuit, agenda)?;
-    let mut steps = Steps::<Brand>::new(Blank::new(1));
-    let finished = sim.run(stimulus, bound, &mut shelf, &mut history, &mut steps);
+    let finished = simulate::<MemoryShelf, History<'_>, Brand>(
+        alloc,
+        circuit,
+        stimulus,
+        bound,
+        &mut shelf,
+        &mut history,
+        Blank::new(1),
+    )?;
     let spent = spent_of(finished.end)?;
     Ok(Watched {
         events: history.into_events(),
