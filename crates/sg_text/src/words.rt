@@ -1,7 +1,7 @@
 // The words of netlists.
 ghost use Rattle.std.specs.Prelude.{◌≡◌, map};
 ghost use Rattle.sg_text.specs.Words.{is_reserved_word, use_in, use_of, keyword_number};
-ghost use Rattle.sg_text.specs.WordsSeen.{row};
+ghost use Rattle.sg_text.specs.WordsSeen.{row, has_ends};
 
 /// A word of the grammar of netlists, but for `module` and `macromodule`.
 #[derive(Clone, Copy, Debug)]
@@ -238,10 +238,27 @@ fn use_in(rows: &[(&str, Reserved)], bytes: &[u8]) -> Option<Reserved>
     None
 }
 
+// Whether the first and the last byte may be those of a reserved word, which most names' aren't.
+fn may_be_reserved(bytes: &[u8]) -> bool
+    ensures { result ≡ has_ends bytes.now }
+{
+    match bytes {
+        [first, .., last] => {
+            first.is_ascii_lowercase()
+                && (last.is_ascii_lowercase() || *last == b'0' || *last == b'1')
+        }
+        _ => false,
+    }
+}
+
 /// What the reserved word of these bytes is for, if they are one (IEEE 1364-2005, the clause on keywords).
+#[tactic(auto, using(crate::proofs::WordLaws::no_word_without))]
 pub fn use_of(bytes: &[u8]) -> Option<Reserved>
     ensures { result ≡ use_of bytes.now }
 {
+    if !may_be_reserved(bytes) {
+        return None;
+    }
     use_in(&RESERVED, bytes)
 }
 
