@@ -9,6 +9,7 @@ use sg_circuit::{Element, ElementKind, NetId, Parts};
 use sg_logic::GateKind;
 use sg_text::NoMemory;
 use std::alloc::Global;
+use std::mem::size_of;
 
 /// By what an element computes its value.
 #[derive(Clone, Copy)]
@@ -39,6 +40,8 @@ pub struct Cell {
     pub output: NetId,
     pub at_once: bool,
 }
+
+const _: () = prove!(size_of::<Cell>() <= 20);
 
 fn brief_of_gate(gate: GateKind, inputs: &[NetId]) -> Brief
     ensures { (k : KindSeen) → IsGate gate k → HasBrief k inputs.now result }
