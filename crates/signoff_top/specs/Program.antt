@@ -8,11 +8,11 @@ use Rattle.std.specs.declared.io.Error.{Error}
 use Rattle.std.specs.declared.io.ErrorKind.TheVariants.{OutOfMemory}
 use Rattle.std.specs.declared.vec.IntoIter.{IntoIter}
 use Rattle.sg_io.specs.Put.{SinkTold}
-use Rattle.signoff_top.specs.Answer.{no_memory_line}
+use Rattle.signoff_phases.specs.Telling.{no_memory_line}
 use Rattle.signoff_top.specs.Promises.{Outcome, ShelfTold}
-use Rattle.signoff_top.specs.Putting.{PutsLast}
-use Rattle.signoff_top.specs.declared.status.Status.{Status}
-use Rattle.signoff_top.specs.declared.status.Status.TheVariants as status
+use Rattle.signoff_phases.specs.Putting.{PutsLast}
+use Rattle.signoff_phases.specs.declared.status.Status.{Status}
+use Rattle.signoff_phases.specs.declared.status.Status.TheVariants as status
 
 -- the program's name and the words after it
 abbrev pub Args : Type 0

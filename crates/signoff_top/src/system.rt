@@ -3,13 +3,12 @@ ghost use Rattle.std.specs.Prelude.{◌≡◌, ◌↔◌, IfOk, IsTrue, drop};
 ghost use Rattle.std.specs.IoError.{error_kind};
 ghost use Rattle.std.specs.Process.{exit_status};
 ghost use Rattle.std.specs.Vec.Iter.{into_iter_items};
-ghost use Rattle.signoff_top.specs.Status.{code_of};
+ghost use Rattle.signoff_phases.specs.Status.{code_of};
 ghost use Rattle.signoff_top.specs.Program.{Ends, WordsOf};
 
 use crate::answer::top;
-use crate::report::tell_no_memory;
-use crate::status::Status;
 use sg_io::{Shelf, Sink};
+use signoff_phases::{Status, tell_no_memory};
 use std::alloc::{AllocError, Global};
 use std::env::Args;
 use std::io::{self, ErrorKind};

@@ -1,0 +1,8 @@
+-- The modules of this folder.
+pub mod Putting
+pub mod Telling
+pub mod Composed
+pub mod Entries
+pub mod FilesRead
+pub mod Outcomes
+pub mod Examples
