@@ -6,3 +6,4 @@ pub mod Entries
 pub mod FilesRead
 pub mod Outcomes
 pub mod Examples
+pub mod GivenWords

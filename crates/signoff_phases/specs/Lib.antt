@@ -6,3 +6,4 @@ pub mod Telling
 pub mod Stops
 pub mod AnnotatedSeen
 pub mod Told
+pub mod Given

@@ -1,7 +1,8 @@
 -- The lines of faults, and how a report is put.
-use Rattle.std.specs.Prelude.{ℕ, ◌++◌, List, codes}
+use Rattle.std.specs.Prelude.{ℕ, ◌++◌, List, Option, codes}
 use Rattle.wave_out.specs.Texts.{line}
 use Rattle.signoff_phases.specs.declared.status.Status.{Status}
+use Rattle.sg_io.specs.Files.{File}
 use Rattle.sg_io.specs.Put.{SinkTold}
 use Rattle.signoff_phases.specs.Putting.{PutsAll, PutsTillFault}
 use Rattle.signoff_phases.specs.Status.{IsRunEnd}
@@ -20,3 +21,9 @@ no_memory_line = line (codes "no memory")
 pub data PutsReport (how : Status) (text : List ℕ) (old new : SinkTold) : Type 0 where
   whole : PutsAll text old new → PutsReport how text old new
   till_fault : (IsRunEnd how → ⊥) → PutsTillFault text old new → PutsReport how text old new
+
+-- what a shelf tells: its files, where it does; how many calls failed, and the name in the last of them
+pub record ShelfTold : Type 0 where
+  pub files : Option (List File)
+  pub faults : ℕ
+  pub last : Option (List ℕ)

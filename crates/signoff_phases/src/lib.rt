@@ -2,6 +2,7 @@
 #![tactic(auto)]
 
 mod annotation;
+mod given;
 mod inputs;
 mod phases;
 mod status;
@@ -9,6 +10,7 @@ mod stop;
 mod telling;
 
 pub use annotation::{Annotated, apply_text};
+pub use given::words_of;
 pub use inputs::{input_of, stimulus_phase};
 pub use phases::{annotated_of, file_within, netlist_phase};
 pub use status::Status;

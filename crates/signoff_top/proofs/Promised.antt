@@ -11,10 +11,10 @@ use Rattle.run_report.specs.Spent.{spent_seen}
 use Rattle.run_dump.specs.RunEnds.{violations_of}
 use Rattle.run_words.specs.Words.{Asked, Writing, a_writing, asked_of, made_in, names_in}
 use Rattle.signoff_top.specs.Answer.{Answer, IsAnswer, refusal_answer, status_of_run}
-use Rattle.signoff_phases.specs.Telling.{fault_line, whole, till_fault}
+use Rattle.signoff_phases.specs.Telling.{fault_line, whole, till_fault, ShelfTold}
 use Rattle.signoff_phases.specs.Phases.{Refusal, words, missing, netlist, save, sdf, stimulus, unwritten, status_of_refusal, refusal_line}
 use Rattle.signoff_top.specs.Phases.{usage}
-use Rattle.signoff_top.specs.Promises.{ShelfTold, IsRight, FitsWords, HasAnswer, FaultAt, at_netlist, at_sdf, at_stimulus, at_state, at_made, NamesFaultAt, LeavesUnfinished, Outcome, answered, shelf_fault, sink_fault, no_memory, sink_want, IsExact, IsStatusOf, KeepsBut, KeepsByAnswer, KeepsByWords, IsUsage}
+use Rattle.signoff_top.specs.Promises.{IsRight, FitsWords, HasAnswer, FaultAt, at_netlist, at_sdf, at_stimulus, at_state, at_made, NamesFaultAt, LeavesUnfinished, Outcome, answered, shelf_fault, sink_fault, no_memory, sink_want, IsExact, IsStatusOf, KeepsBut, KeepsByAnswer, KeepsByWords, IsUsage}
 use Rattle.signoff_phases.specs.Putting.{PutsAll, PutsLast}
 use Rattle.signoff_phases.specs.Putting as putting
 use Rattle.signoff_phases.specs.Status.{IsDecided, IsRunEnd, is_run_end}

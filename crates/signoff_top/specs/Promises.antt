@@ -7,7 +7,7 @@ use Rattle.sg_io.specs.Put.{SinkTold}
 use Rattle.sg_circuit.specs.Circuit.{Circuit}
 use Rattle.sg_model.specs.Machine.{Violation}
 use Rattle.signoff_top.specs.Answer.{Answer, IsAnswer, FilesAfter, dump_of, rest_answer, rest_dump, rest_of, run_of, saved_of, stop_answer, stopped_of}
-use Rattle.signoff_phases.specs.Telling.{fault_line, no_memory_line, report_fault_line, PutsReport}
+use Rattle.signoff_phases.specs.Telling.{fault_line, no_memory_line, report_fault_line, PutsReport, ShelfTold}
 use Rattle.run_words.specs.Words.{Asked, Command, Design, Stop, Writing, a_rest, a_writing, asked_of, command_of, design_of, file_of, names_in}
 use Rattle.signoff_phases.specs.Phases.{Annotated, CircuitOutcome, DesignOutcome, FilesOutcome}
 use Rattle.signoff_top.specs.Phases.{Rest, Task, CommandOutcome, usage_line}
@@ -16,12 +16,6 @@ use Rattle.wave_out.specs.Files.{IsBegun, LeavesPrefix}
 use Rattle.signoff_phases.specs.Status.{IsDecided, IsRunEnd}
 use Rattle.signoff_phases.specs.declared.status.Status.{Status}
 use Rattle.signoff_phases.specs.declared.status.Status.TheVariants as status
-
--- what a shelf tells: its files, where it does; how many calls failed, and the name in the last of them
-pub record ShelfTold : Type 0 where
-  pub files : Option (List File)
-  pub faults : ℕ
-  pub last : Option (List ℕ)
 
 -- a right answer for the files before: its status, its report, and the file that it makes
 pub record IsRight (ws : List (List ℕ)) (how : Status) (text : List ℕ) (old new : List File) : Type 0 where

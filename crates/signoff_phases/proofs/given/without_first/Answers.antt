@@ -1,5 +1,5 @@
-use Rattle.signoff_top.proofs.ProgramWords.{after_first, one_more, all_taken}
-use Rattle.signoff_top.proofs.system.without_first.Goals as goal
+use Rattle.signoff_phases.proofs.GivenWords.{after_first, one_more, all_taken}
+use Rattle.signoff_phases.proofs.given.without_first.Goals as goal
 
 pub loop-word-init : goal.loop-word-init
 loop-word-init c =
