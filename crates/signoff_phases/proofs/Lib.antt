@@ -1,6 +1,6 @@
 -- The modules of this folder.
 pub mod Putting
-pub mod Telling
+pub mod TellingLaws
 pub mod Composed
 pub mod Entries
 pub mod FilesRead

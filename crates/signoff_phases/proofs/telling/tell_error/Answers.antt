@@ -1,5 +1,5 @@
 use Rattle.std.proofs.Common.{sym, ◌∙◌}
-use Rattle.signoff_phases.proofs.Telling.{made_fault, made_cut, made_want, tells_fault, tells_cut, tells_want}
+use Rattle.signoff_phases.proofs.TellingLaws.{made_fault, made_cut, made_want, tells_fault, tells_cut, tells_want}
 use Rattle.signoff_phases.proofs.telling.tell_error.Goals as goal
 
 pub returns-in-Failed-clause-put : goal.returns-in-Failed-clause-put

@@ -1,4 +1,4 @@
-use Rattle.signoff_phases.proofs.Telling.{made_all, tells_all}
+use Rattle.signoff_phases.proofs.TellingLaws.{made_all, tells_all}
 use Rattle.signoff_phases.proofs.telling.tell_put.Goals as goal
 
 pub returns-in-Ok-clause-put : goal.returns-in-Ok-clause-put
