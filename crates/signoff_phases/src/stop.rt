@@ -71,6 +71,7 @@ impl From<AllocError> for Stop<'_> {
 }
 
 impl<T: Drop> From<AllocFailed<T>> for Stop<'_> {
+    ghost use Rattle.std.specs.Prelude.{◌≡◌};
     ghost use Rattle.signoff_phases.specs.declared.stop.Stop.TheVariants as stop;
 
     ghost from_gives = { λ _ e. e ≡ stop.NoMemory };
@@ -81,6 +82,7 @@ impl<T: Drop> From<AllocFailed<T>> for Stop<'_> {
 }
 
 impl From<NoMemory> for Stop<'_> {
+    ghost use Rattle.std.specs.Prelude.{◌≡◌};
     ghost use Rattle.signoff_phases.specs.declared.stop.Stop.TheVariants as stop;
 
     ghost from_gives = { λ _ e. e ≡ stop.NoMemory };
