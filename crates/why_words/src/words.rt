@@ -52,10 +52,7 @@ fn asked_with<'a>(netlists: Vec<&'a str>, arguments: &[Argument<'a>]) -> Option<
     })
 }
 
-fn asked_from<'a>(
-    alloc: Global,
-    arguments: &[Argument<'a>],
-) -> Result<Option<Asked<'a>>, NoMemory>
+fn asked_from<'a>(alloc: Global, arguments: &[Argument<'a>]) -> Result<Option<Asked<'a>>, NoMemory>
     ensures { IfOk result (λ a. option_map (λ x. asked_seen x) a ≡ asked_from (map argument_seen arguments.now)) }
 {
     let netlists = netlists_of(alloc, arguments)?;
