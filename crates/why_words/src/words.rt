@@ -1,7 +1,7 @@
 // The words of the command line.
 ghost use Rattle.std.specs.Prelude.{◌≡◌, map, option_map, IfOk, string_bytes};
 ghost use Rattle.run_words.specs.ArgumentsSeen.{argument_seen};
-ghost use Rattle.why_words.specs.Words.{asked_from, asked_of, asked_with};
+ghost use Rattle.why_words.specs.Words.{asked_from, asked_of, asked_with, options};
 ghost use Rattle.why_words.specs.WordsSeen.{asked_seen};
 
 use crate::questions::{Question, question_of};
@@ -25,6 +25,12 @@ const OPTIONS: [&str; 10] = [
     "at",
     "violation",
 ];
+
+fn options() -> &'static [&'static str]
+    ensures { map (λ n. n.now) result.now ≡ options }
+{
+    &OPTIONS
+}
 
 /// What the words ask for. The files are named as the words name them.
 #[derive(Debug, Drop, PartialEq)]
@@ -56,7 +62,7 @@ fn asked_from<'a>(alloc: Global, arguments: &[Argument<'a>]) -> Result<Option<As
     ensures { IfOk result (λ a. option_map (λ x. asked_seen x) a ≡ asked_from (map argument_seen arguments.now)) }
 {
     let netlists = netlists_of(alloc, arguments)?;
-    if are_sound(&OPTIONS, arguments, &netlists) {
+    if are_sound(options(), arguments, &netlists) {
         Ok(asked_with(netlists, arguments))
     } else {
         Ok(None)
