@@ -7,3 +7,4 @@ pub mod FilesRead
 pub mod Outcomes
 pub mod Examples
 pub mod GivenWords
+pub mod Named

@@ -13,6 +13,7 @@ use Rattle.signoff_phases.specs.Stops.{FailsAtDesign, in_netlist, in_sdf, FailsA
 use Rattle.signoff_phases.specs.declared.stop.Stop as code_stop
 use Rattle.signoff_phases.specs.declared.stop.Stop.TheVariants as stop
 use Rattle.signoff_phases.proofs.Composed.{failed_again}
+use Rattle.signoff_phases.proofs.Named.{netlist_among, sdf_among}
 use Rattle.signoff_phases.proofs.Putting.{both_same}
 
 -- the files of a design are among those of what is asked
@@ -28,10 +29,6 @@ designed (a_writing w) d name e h =
 designed (the_bounds b) d name e h = let same : b ≡ d = cc in subst (λ x. Contains (design_names x) name) (sym same) h
 designed (a_case stages) d name e h = cc
 
-netlist_among : (d : Design) (before after : List (List ℕ)) (name : List ℕ) → d.netlists ≡ before ++ name ∷ after → Contains (design_names d) name
-netlist_among d before after name e =
-    Contains-append_left d.netlists (option_to_list d.sdf) name (subst (λ ns. Contains ns name) (sym e) (Contains-append_right before (name ∷ after) name (0, omega arith, refl)))
-
 -- a failure on a file of the netlist
 netlist_fault : (ws : List (List ℕ)) (old new : Option (List File)) (last : Option (List ℕ)) (asked : Asked) (d : Design)
     → asked_of ws ≡ Some asked → design_of asked ≡ Some d → new ≡ old → FailsAtOne d.netlists old last → NamesFaultAt ws old new last
@@ -42,9 +39,6 @@ netlist_fault ws old new last asked d e is k f = record {
   place = both_same (λ before after. FaultAt ws before after f.name) old new k (λ files held.
       (let texts = f.read files held in at_netlist asked d f.before f.name f.after texts.0 e is f.split texts.1 refl));
 }
-
-sdf_among : (d : Design) (name : List ℕ) → d.sdf ≡ Some name → Contains (design_names d) name
-sdf_among d name e = Contains-append_right d.netlists (option_to_list d.sdf) name (subst (λ o. Contains (option_to_list o) name) (sym e) (0, lit< tt, refl))
 
 -- so is the design of a run
 pub run_design : (asked : Asked) (c : Command) → command_of asked ≡ Some c → design_of asked ≡ Some c.design

@@ -54,8 +54,12 @@ fn spent_by(time: u64, spent: Option<Spent>) -> Option<Spent>
     ensures { found_in result ≡ spent_by time (found_in spent) }
 {
     match spent {
-        Some(spent) if spent.time <= time => Some(spent),
-        _ => None,
+        Some(spent) => if spent.time <= time {
+            Some(spent)
+        } else {
+            None
+        },
+        None => None,
     }
 }
 

@@ -4,6 +4,7 @@ ghost use Rattle.sg_io.specs.Faults.{Cause};
 ghost use Rattle.sg_io.specs.Files.{File};
 ghost use Rattle.sg_stimulus.specs.Applied.{IsApplied};
 ghost use Rattle.sg_stimulus.specs.Seen.{stimulus_seen};
+ghost use Rattle.signoff_phases.specs.Phases.{WordsOutcome};
 ghost use Rattle.signoff_phases.specs.Stops.{Gives, IfFailed, NeverFails, SparesWords, StopWords, end_of_phase};
 ghost use Rattle.why_words.specs.Words.{asked_of, names_in, names_of};
 ghost use Rattle.why_words.specs.WordsSeen.{asked_seen};
@@ -17,7 +18,9 @@ use signoff_phases::{Refusal, Stop, annotated_of, input_of};
 use std::alloc::Global;
 use why_words::{Asked, read_words};
 
+#[tactic(auto, using(crate::proofs::WordsRead::asked_ready))]
 fn words_phase<'a>(alloc: Global, words: &'a [String]) -> Result<Asked<'a>, Stop<'a>>
+    ensures gives { Gives (λ x. asked_seen x) (WordsOutcome (asked_of (map string_bytes words.now))) result }
     ensures works { NeverFails result }
     ensures words { StopWords (asked_of (map string_bytes words.now)) (λ asked x. asked ≡ asked_seen x) result }
     ensures ready { IfOk result (λ x. IsReady x) }
