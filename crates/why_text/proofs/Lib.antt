@@ -1,1 +1,4 @@
 -- The modules of this folder.
+pub mod FirstLaws
+pub mod PinLaws
+pub mod LineLaws
