@@ -31,3 +31,25 @@ made_step g f xs i d y l e =
     at_drop_more (λ ys. slice_get (filter_map g (map f ys)) 0) xs i d l
     ∙ (first_cons (g (f (get_or xs i d))) (filter_map g (map f (drop (i + 1) xs)))
     ∙ ap (λ z. option_or (g z) (slice_get (filter_map g (map f (drop (i + 1) xs))) 0)) (sym e))
+
+-- the first of a list that passes, where it stands by its place
+pub found_at : {A B : Type 0} (t : B → Bool) (f : A → B) (a : ℕ) (xs : List A) (d : A) (k : ℕ) → position_from (λ x. t (f x)) a xs ≡ Some k
+    → (j : ℕ) × (k ≡ a + j) × (find t (map f xs) ≡ Some (f (get_or xs j d)))
+found_at t f a [] d k e = cc
+found_at t f a (x ∷ xs) d k e = by (t (f x)) refl (found_at t f (a + 1) xs d k)
+  where
+    by : (b : Bool) → t (f x) ≡ b → (position_from (λ y. t (f y)) (a + 1) xs ≡ Some k → (j : ℕ) × (k ≡ (a + 1) + j) × (find t (map f xs) ≡ Some (f (get_or xs j d))))
+        → (j : ℕ) × (k ≡ a + j) × (find t (map f (x ∷ xs)) ≡ Some (f (get_or (x ∷ xs) j d)))
+    by true h rest = let g : Some a ≡ Some k = rw h at e in (0, (let i : a ≡ k = cc in omega (arith, i)), rw h refl)
+    by false h rest =
+        let g : position_from (λ y. t (f y)) (a + 1) xs ≡ Some k = rw h at e in
+        let r = rest g in
+        (suc r.0, (let i = r.1 in omega (arith, i)), rw h r.2)
+
+pub none_found : {A B : Type 0} (t : B → Bool) (f : A → B) (a : ℕ) (xs : List A) → position_from (λ x. t (f x)) a xs ≡ None → find t (map f xs) ≡ None
+none_found t f a [] e = refl
+none_found t f a (x ∷ xs) e = by (t (f x)) refl (none_found t f (a + 1) xs)
+  where
+    by : (b : Bool) → t (f x) ≡ b → (position_from (λ y. t (f y)) (a + 1) xs ≡ None → find t (map f xs) ≡ None) → find t (map f (x ∷ xs)) ≡ None
+    by true h rest = let g : Some a ≡ None = rw h at e in cc
+    by false h rest = let g : position_from (λ y. t (f y)) (a + 1) xs ≡ None = rw h at e in rw h (rest g)

@@ -2,3 +2,4 @@
 pub mod FirstLaws
 pub mod PinLaws
 pub mod LineLaws
+pub mod ToggleLaws

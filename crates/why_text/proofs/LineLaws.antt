@@ -17,3 +17,9 @@ chain_step c w vs end links i last d old text new l e is =
     ap (λ t. t ++ chain_lines c w vs (get_or links i d).event (drop (i + 1) links) end) is
     ∙ (append_assoc text (through_line c w (event_at w last) (get_or links i d)) (chain_lines c w vs (get_or links i d).event (drop (i + 1) links) end)
     ∙ (ap (λ t. text ++ t) (sym (at_drop_more (λ ls. chain_lines c w vs last ls end) links i d l)) ∙ e))
+
+-- four texts, one after another
+pub add_four : (start a b c d : List ℕ) {one two three four : List ℕ} → one ≡ start ++ a → two ≡ one ++ b → three ≡ two ++ c → four ≡ three ++ d → four ≡ start ++ (a ++ b ++ c ++ d)
+add_four start a b c d e f g h =
+    h ∙ (ap (λ t. t ++ d) (g ∙ ap (λ t. t ++ c) (f ∙ ap (λ t. t ++ b) e))
+    ∙ (ap (λ t. t ++ c ++ d) (append_assoc start a b) ∙ (ap (λ t. t ++ d) (append_assoc start (a ++ b) c) ∙ append_assoc start (a ++ b ++ c) d)))
