@@ -48,7 +48,7 @@ falls-on (suc left) bound m sets now r b h k = at (time_of bound m sets now r) r
   where
     at : (e : Ended) → time_of bound m sets now r ≡ e
         → ((x : Run) → AreBefore x.snapshots (suc now) → AllBelow (suc now) (lasts x.snapshots) → Falls (lasts x.snapshots)
-            → AllBelow (suc now + left) (lasts (times_from left bound m sets (suc now) x).run.snapshots) × Falls (lasts (times_from left bound m sets (suc now) x).run.snapshots))
+        → AllBelow (suc now + left) (lasts (times_from left bound m sets (suc now) x).run.snapshots) × Falls (lasts (times_from left bound m sets (suc now) x).run.snapshots))
         → AllBelow (now + suc left) (lasts (go_on e r now (λ x. times_from left bound m sets (suc now) x)).run.snapshots) × Falls (lasts (go_on e r now (λ x. times_from left bound m sets (suc now) x)).run.snapshots)
     at (Spent net evaluations) e rest = (below-more now (now + suc left) (lasts r.snapshots) (omega arith) h, k)
     at (Whole next) e rest =
@@ -56,7 +56,7 @@ falls-on (suc left) bound m sets now r b h k = at (time_of bound m sets now r) r
         let s : Snapshot = record { time = now; values = next.state.values } in
         let is : lasts next.snapshots ≡ s ∷ lasts r.snapshots = time-lasts now r next a b in
         let more = rest next (time-before now (suc now) r next a (omega arith))
-            (subst (AllBelow (suc now)) (sym is) (omega arith, below-more now (suc now) (lasts r.snapshots) (omega arith) h)) (subst Falls (sym is) (h, k)) in
+        (subst (AllBelow (suc now)) (sym is) (omega arith, below-more now (suc now) (lasts r.snapshots) (omega arith) h)) (subst Falls (sym is) (h, k)) in
         (below-more (suc now + left) (now + suc left) _ (omega arith) more.0, more.1)
 
 -- what is so of events, and stays so with later ones
@@ -82,9 +82,10 @@ at-once time nets bound (c ∷ cs) l h =
 
 rise-append : (time : ℕ) (es : List Event) (cs : List NetChange) → AllByRecursion (λ (e : Event). e.time < time) es → Rise es → Rise (events_at time cs) → Rise (es ++ events_at time cs)
 rise-append time [] cs b r k = k
-rise-append time (e ∷ es) cs b r k =
-    (each-append (λ (f : Event). e.time ≤ f.time) es (events_at time cs) r.0 (each-weaker (λ (f : Event). time ≤ f.time) (λ (f : Event). e.time ≤ f.time) (events_at time cs) (λ f l. omega (arith, l, b.0)) (at-once-each time cs)),
-    rise-append time es cs b.1 r.1 k)
+rise-append time (e ∷ es) cs b r k = (
+  each-append (λ (f : Event). e.time ≤ f.time) es (events_at time cs) r.0 (each-weaker (λ (f : Event). time ≤ f.time) (λ (f : Event). e.time ≤ f.time) (events_at time cs) (λ f l. omega (arith, l, b.0)) (at-once-each time cs)),
+  rise-append time es cs b.1 r.1 k,
+)
 
 -- a net that differs is one of so many
 less-or : (k n : ℕ) → (k < n) ⊎ (n ≤ k)
@@ -100,7 +101,7 @@ past-end (v ∷ vs) (suc n) l = past-end vs n (omega (arith, l))
 
 below-length : (before after : List Value) (nets k : ℕ) → length before ≡ nets → length after ≡ nets → differs before after k ≡ true → k < nets
 below-length before after nets k b a d = elim (less-or k nets) [
-  inl less ↦ less
+  | inl less ↦ less
   | inr past ↦ absurd (clash (past-end before k (omega (arith, past, b))) (past-end after k (omega (arith, past, a))) d)
 ]
   where
@@ -113,6 +114,7 @@ each-in P all (x ∷ xs) l f = (f x (let h = head in let m = l x in omega (arith
   where
     head : 0 < occurrences x (x ∷ xs)
     head = let t : (x == x) ≡ true = grind (arith, nat_tests) in subst (λ b. 0 < (if b then 1 else 0) + occurrences x xs) (sym t) (omega arith)
+
     tail : (k : ℕ) → occurrences k xs ≤ occurrences k (x ∷ xs)
     tail k = at (x == k)
       where

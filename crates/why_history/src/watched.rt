@@ -5,14 +5,15 @@ ghost use Rattle.sg_stimulus.specs.Applied.{IsApplied};
 ghost use Rattle.sg_stimulus.specs.Seen.{stimulus_seen};
 ghost use Rattle.time_checks.specs.Seen.{violation_seen};
 ghost use Rattle.sim_rounds.specs.Setting.{setting_of};
-ghost use Rattle.sim_rounds.specs.Simulated.{first_state, run_of_circuit};
+ghost use Rattle.sim_rounds.specs.Simulated.{first_state, first_value_of, run_of_circuit};
 ghost use Rattle.why_history.specs.Events.{AreEvents};
 ghost use Rattle.why_history.specs.Ends.{found_in, HasRun, IsEnd};
 
 use crate::history::History;
 use event_wheel::Wheel;
-use sg_circuit::{Circuit, NetId};
+use sg_circuit::{Circuit, Driver, Net, NetId};
 use sg_io::{MemoryShelf, Shelf};
+use sg_logic::Value;
 use sg_steps::Steps;
 use sg_stimulus::Stimulus;
 use sg_text::NoMemory;
@@ -37,11 +38,33 @@ pub struct Spent {
 /// What a run came to, with each change of its nets.
 #[derive(Debug, Drop)]
 pub struct Watched {
+    /// The values of the nets before time 0.
+    pub first: Vec<Value>,
     /// By rising times, each net at most once a time.
     pub events: Vec<Event>,
     pub violations: Vec<Violation>,
     /// The time that needed more rounds than the bound, if there was one.
     pub spent: Option<Spent>,
+}
+
+// The value of a net before time 0: of a driven one x, and of every other z.
+fn first_value(driver: Driver) -> Value
+    ensures { result ≡ first_value_of driver }
+{
+    match driver {
+        Driver::Nobody => Value::Z,
+        Driver::Stimulus | Driver::Element(_) | Driver::Notifier => Value::X,
+    }
+}
+
+fn first_values(alloc: Global, nets: &[Net]) -> Result<Vec<Value>, NoMemory>
+    ensures { IfOk result (λ v. v.items ≡ map (λ net. first_value_of net.driver) nets.now) }
+{
+    Ok(
+        nets.iter()
+            .map(|net| first_value(net.driver))
+            .collect(alloc)?,
+    )
 }
 
 // The time that was spent, if a run came to an end.
@@ -90,8 +113,11 @@ pub fn watch(
 ) -> Result<Watched, NoMemory>
     requires bound { 0 < bound }
     requires applied { IsApplied circuit.now (stimulus_seen stimulus.now) }
+    ensures first { IfOk result (λ w. w.first.items ≡ (first_state circuit.now).values) }
+    ensures few { IfOk result (λ w. length w.first.items < 2 ^ 32) }
+    ensures first_nets { IfOk result (λ w. length w.first.items ≡ length circuit.now.nets) }
     ensures events { IfOk result (λ w. AreEvents (first_state circuit.now).values (run_of_circuit circuit.now bound (stimulus_seen stimulus.now)) w.events.items) }
-    ensures nets { IfOk result (λ w. All (λ e. e.net < length circuit.now.nets) w.events.items) }
+    ensures nets { IfOk result (λ w. All (λ e. e.net < length w.first.items) w.events.items) }
     ensures times { IfOk result (λ w. All (λ e. e.time < 2 ^ 60) w.events.items) }
     ensures rise { IfOk result (λ w. AllPairs (λ d e. d.time ≤ e.time) w.events.items) }
     ensures violations { IfOk result (λ w. map (λ v. violation_seen v) w.violations.items ≡ (run_of_circuit circuit.now bound (stimulus_seen stimulus.now)).run.violations) }
@@ -110,6 +136,7 @@ pub fn watch(
     )?;
     let spent = spent_of(finished.end)?;
     Ok(Watched {
+        first: first_values(alloc, &circuit.parts().nets)?,
         events: history.into_events(),
         violations: finished.tally.violations,
         spent,

@@ -67,16 +67,23 @@ abbrev pub drives_constant : Kind → Bool
 drives_constant (Pass (Some value)) = true
 drives_constant _ = false
 
--- an event of an element's output that no other caused: a constant, or what it comes to before any input changed
-abbrev pub first_line : Circuit → Event → Element → List ℕ
-first_line c e element =
-    if drives_constant element.kind then line (event_front c e ++ codes " constant in " ++ instance_text c element.scope)
-    else line (event_front c e ++ codes " from the start")
+-- an event that no other caused: what the stimulus sets, what an element drives as a constant, or comes to before any input changed
+abbrev pub set_line : Circuit → Event → List ℕ
+set_line c e = line (event_front c e ++ codes " set by the stimulus")
 
--- an event that no other caused, of a net with such a driver
+abbrev pub start_line : Circuit → Event → List ℕ
+start_line c e = line (event_front c e ++ codes " from the start")
+
+abbrev pub constant_line : Circuit → Event → Element → List ℕ
+constant_line c e element = line (event_front c e ++ codes " constant in " ++ instance_text c element.scope)
+
+abbrev pub first_line : Circuit → Event → Element → List ℕ
+first_line c e element = if drives_constant element.kind then constant_line c e element else start_line c e
+
+-- by what drives its net
 abbrev pub driven_line : Circuit → List Violation → Event → Driver → List ℕ
-driven_line c vs e driver.Nobody = line (event_front c e ++ codes " from the start")
-driven_line c vs e driver.Stimulus = line (event_front c e ++ codes " set by the stimulus")
+driven_line c vs e driver.Nobody = start_line c e
+driven_line c vs e driver.Stimulus = set_line c e
 driven_line c vs e (driver.Element number) = first_line c e (element_at c number)
 driven_line c vs e driver.Notifier = toggled_line c e (find (toggles c e) vs)
 

@@ -1,7 +1,6 @@
 -- What is told of a violation: the chains of its data and of its reference, where they part, and the times from there.
-use Rattle.std.specs.Prelude.{ℕ, ◌+◌, ◌-◌, ◌==◌, ◌≡◌, ℤ, pos, ◌-ℤ◌, if◌then◌else◌, List, [], ◌∷◌, ◌++◌, Option, Some, None, codes, decimal, filter_map, find, map, slice_get}
+use Rattle.std.specs.Prelude.{ℕ, ◌+◌, ◌-◌, ◌==◌, ◌≡◌, ℤ, pos, ◌-ℤ◌, if◌then◌else◌, List, [], ◌∷◌, ◌++◌, Option, Some, None, codes, decimal, filter_map, find, length, map, slice_get}
 use Rattle.std.specs.Fmt.{signed_decimal}
-use Rattle.std.specs.List.{last_or}
 use Rattle.std.specs.Option.{option_map}
 use Rattle.sg_model.specs.Machine.{Violation}
 use Rattle.sg_circuit.specs.declared.checks.Event as check
@@ -44,7 +43,7 @@ time_or time None = time
 time_or time (Some e) = e.time
 
 abbrev pub begin : Waveform → List ℕ → ℕ → ℕ
-begin w events time = time_or time (last_or None (map (event_at w) events))
+begin w events time = time_or time (option_map (event_at w) (slice_get events (length events - 1)))
 
 -- the times of data and reference from which both are counted: where they part, or where each begins
 abbrev pub starts : Waveform → Violation → (data_events refer_events : List ℕ) → Option (Event × Event) → ℕ × ℕ

@@ -5,7 +5,9 @@ ghost use Rattle.sg_circuit.specs.Circuit.{net_at};
 ghost use Rattle.why_causes.specs.Waveform.{event_at};
 ghost use Rattle.why_text.specs.Lines.{chain_lines, driven_line, last_lines};
 
-use crate::lines::{event_of, push_again, push_event, push_first, push_never_set, push_through};
+use crate::lines::{
+    event_of, push_again, push_first, push_never_set, push_set, push_start, push_through,
+};
 use crate::toggles::push_toggled;
 use sg_circuit::{Circuit, Driver, NetId};
 use std::alloc::{AllocError, Global};
@@ -32,14 +34,8 @@ fn push_driven(
     ensures { OnOk result (text.new.items ≡ text.old.items ++ driven_line circuit.now (map (λ v. violation_seen v) violations.now) event (net_at circuit.now event.net).driver) }
 {
     match driver_of(circuit, event.net) {
-        Driver::Nobody => {
-            push_event(alloc, text, circuit, event)?;
-            text.extend_from_slice(b" from the start\n")
-        }
-        Driver::Stimulus => {
-            push_event(alloc, text, circuit, event)?;
-            text.extend_from_slice(b" set by the stimulus\n")
-        }
+        Driver::Nobody => push_start(alloc, text, circuit, event),
+        Driver::Stimulus => push_set(alloc, text, circuit, event),
         Driver::Element(element) => push_first(alloc, text, circuit, event, element),
         Driver::Notifier => push_toggled(alloc, text, circuit, violations, event),
     }

@@ -6,7 +6,7 @@ ghost use Rattle.sg_circuit.specs.declared.circuits.Parts.{Parts};
 ghost use Rattle.wave_out.specs.Texts.{line};
 ghost use Rattle.wave_out.specs.Vcd.{value_letter};
 ghost use Rattle.why_causes.specs.Waveform.{event_at};
-ghost use Rattle.why_text.specs.Lines.{again_line, drives_constant, event_front, first_line, front, input_at, through_line};
+ghost use Rattle.why_text.specs.Lines.{again_line, constant_line, drives_constant, event_front, first_line, front, input_at, set_line, start_line, through_line};
 ghost use Rattle.why_text.specs.Pins.{way_text};
 
 use crate::pins::{place_of, push_instance, push_way};
@@ -170,6 +170,49 @@ fn is_constant_kind(kind: ElementKind) -> bool
     matches!(kind, ElementKind::Pass { constant: Some(_) })
 }
 
+/// Adds the line of an event that the stimulus sets.
+pub fn push_set(
+    alloc: Global,
+    text: &mut Vec<u8>,
+    circuit: &Circuit,
+    event: Event,
+) -> Result<(), AllocError>
+    ensures { OnOk result (text.new.items ≡ text.old.items ++ set_line circuit.now event) }
+{
+    push_event(alloc, text, circuit, event)?;
+    text.extend_from_slice(b" set by the stimulus\n")
+}
+
+/// Adds the line of an event that comes before any input changed.
+pub fn push_start(
+    alloc: Global,
+    text: &mut Vec<u8>,
+    circuit: &Circuit,
+    event: Event,
+) -> Result<(), AllocError>
+    ensures { OnOk result (text.new.items ≡ text.old.items ++ start_line circuit.now event) }
+{
+    push_event(alloc, text, circuit, event)?;
+    text.extend_from_slice(b" from the start\n")
+}
+
+// Adds the line of an event of a constant that an element drives.
+fn push_constant(
+    alloc: Global,
+    text: &mut Vec<u8>,
+    circuit: &Circuit,
+    event: Event,
+    element: u32,
+) -> Result<(), AllocError>
+    ensures { OnOk result (text.new.items ≡ text.old.items ++ constant_line circuit.now event (element_at circuit.now element)) }
+{
+    push_event(alloc, text, circuit, event)?;
+    text.extend_from_slice(b" constant in ")?;
+    push_instance(alloc, text, circuit, place_of(circuit, element).0)?;
+    text.push(b'\n')?;
+    Ok(())
+}
+
 /// Adds the line of an event of an element's output that no other event caused.
 pub fn push_first(
     alloc: Global,
@@ -180,12 +223,8 @@ pub fn push_first(
 ) -> Result<(), AllocError>
     ensures { OnOk result (text.new.items ≡ text.old.items ++ first_line circuit.now event (element_at circuit.now element)) }
 {
-    push_event(alloc, text, circuit, event)?;
-    if !is_constant(circuit, element) {
-        return text.extend_from_slice(b" from the start\n");
+    if is_constant(circuit, element) {
+        return push_constant(alloc, text, circuit, event, element);
     }
-    text.extend_from_slice(b" constant in ")?;
-    push_instance(alloc, text, circuit, place_of(circuit, element).0)?;
-    text.push(b'\n')?;
-    Ok(())
+    push_start(alloc, text, circuit, event)
 }

@@ -92,17 +92,33 @@ fn difference(from: u64, to: u64) -> i128
     to as i128 - from as i128
 }
 
+// How much the distance from a first event to a second one falls short of a limit.
+fn missing(limit: i64, first: u64, second: u64) -> i128
+    ensures { result ≡ limit -ℤ (pos second -ℤ pos first) }
+{
+    limit as i128 - (second as i128 - first as i128)
+}
+
+// How much it is more.
+fn excess(limit: i64, first: u64, second: u64) -> i128
+    ensures { result ≡ (pos second -ℤ pos first) -ℤ limit }
+{
+    (second as i128 - first as i128) - limit as i128
+}
+
 // How much the distance of the events of a part falls short of its limit; of skew, how much it is more.
 fn shortage(violation: &Violation) -> i128
     ensures { result ≡ shortage (violation_seen violation.now) }
 {
-    let limit = violation.limit as i128;
-    let ahead = difference(violation.datum_time, violation.refer_time);
-    let behind = difference(violation.refer_time, violation.datum_time);
+    let (refer, datum) = (violation.refer_time, violation.datum_time);
     match violation.part {
-        Part::Setup | Part::Removal => limit - ahead,
-        Part::Skew => behind - limit,
-        Part::Hold | Part::Recovery | Part::Width | Part::Period => limit - behind,
+        Part::Setup => missing(violation.limit, datum, refer),
+        Part::Removal => missing(violation.limit, datum, refer),
+        Part::Skew => excess(violation.limit, refer, datum),
+        Part::Hold => missing(violation.limit, refer, datum),
+        Part::Recovery => missing(violation.limit, refer, datum),
+        Part::Width => missing(violation.limit, refer, datum),
+        Part::Period => missing(violation.limit, refer, datum),
     }
 }
 
