@@ -21,7 +21,7 @@ use Rattle.why_words.specs.declared.questions.Question.TheVariants as question
 use Rattle.why_top.specs.Answer.{Answer, IsAnswerTo, refusal_answer, usage}
 use Rattle.why_top.specs.Runs.{IsRun, Run, Task}
 use Rattle.why_top.specs.declared.answers.Answer as code_answer
-use Rattle.why_top.specs.declared.runs.Run as code_run
+use Rattle.why_history.specs.declared.watched.Watched as code_run
 use Rattle.why_top.specs.declared.runs.Task as code_task
 
 abbrev pub task_seen : code_task.Task → Task
@@ -30,16 +30,17 @@ task_seen t = record { circuit = t.circuit; input = stimulus_seen t.input }
 abbrev pub answer_seen : code_answer.Answer → Answer
 answer_seen a = record { status = a.status; report = a.report.items }
 
-abbrev pub waveform_of : code_run.Run → Waveform
-waveform_of r = record { first = r.first.items; events = r.watched.events.items }
+abbrev pub waveform_of : code_run.Watched → Waveform
+waveform_of r = record { first = r.first.items; events = r.events.items }
 
-abbrev pub run_seen : code_run.Run → Run
-run_seen r = record { waveform = waveform_of r; violations = map (λ v. violation_seen v) r.watched.violations.items; spent = found_in r.watched.spent }
+abbrev pub run_seen : code_run.Watched → Run
+run_seen r = record { waveform = waveform_of r; violations = map (λ v. violation_seen v) r.violations.items; spent = found_in r.spent }
 
 -- a run whose events are those of a circuit's nets, in order
 pub record IsInOrder (nets : ℕ) (w : Waveform) : Type 0 where
   pub values : length w.first ≡ nets
-  pub nets : All (λ e. e.net < nets) w.events
+  pub few : length w.first < 2 ^ 32
+  pub nets : All (λ e. e.net < length w.first) w.events
   pub times : All (λ e. e.time < 2 ^ 60) w.events
   pub rise : AllPairs (λ d e. d.time ≤ e.time) w.events
 
@@ -48,10 +49,10 @@ abbrev pub IsBounded : Circuit → code_violation.Violation → Type 0
 IsBounded c v = (v.check < length c.check_timings) × (v.refer_time < 2 ^ 63) × (v.datum_time < 2 ^ 63)
 
 -- the run of a task
-pub record IsRunOf (task : Task) (rounds : ℕ) (r : code_run.Run) : Type 0 where
+pub record IsRunOf (task : Task) (rounds : ℕ) (r : code_run.Watched) : Type 0 where
   pub run : IsRun task rounds (run_seen r)
   pub order : IsInOrder (length task.circuit.nets) (waveform_of r)
-  pub bounded : All (λ v. IsBounded task.circuit v) r.watched.violations.items
+  pub bounded : All (λ v. IsBounded task.circuit v) r.violations.items
 
 -- the time of a question has a next one
 abbrev pub IsSoon : code_question.Question → Type 0

@@ -1,6 +1,5 @@
 // The answer to a question about a run.
 ghost use Rattle.std.specs.Prelude.{◌≡◌, ◌++◌, ◌<◌, ◌^◌, All, IfOk, Some, length};
-ghost use Rattle.sg_circuit.specs.Closed.{IsClosed};
 ghost use Rattle.sg_stimulus.specs.Applied.{IsApplied};
 ghost use Rattle.sg_stimulus.specs.Seen.{stimulus_seen};
 ghost use Rattle.wave_out.specs.Texts.{line};
@@ -10,14 +9,14 @@ ghost use Rattle.why_words.specs.WordsSeen.{question_seen};
 ghost use Rattle.why_top.specs.Answer.{IsAnswerIn, IsChainAnswer, IsNetAnswer, IsViolationAnswer, TellsChain, TellsViolation, spent_answer, spent_by, told, unfound_answer};
 ghost use Rattle.why_top.specs.Seen.{IsBounded, IsInOrder, IsSoon, answer_seen, run_seen, task_seen, waveform_of};
 
-use crate::runs::{Run, Task, run_of};
+use crate::runs::{Task, run_of};
 use run_report::spent_text;
 use sg_circuit::{Circuit, NetId};
 use sg_text::NoMemory;
 use signoff_phases::{Status, named_line};
 use std::alloc::Global;
 use why_causes::Trace;
-use why_history::Spent;
+use why_history::{Spent, Watched};
 use why_text::{find_net, find_violation, net_causes, violation_causes};
 use why_words::Question;
 
@@ -67,18 +66,17 @@ fn spent_by(time: u64, spent: Option<Spent>) -> Option<Spent>
 fn told_chain(
     alloc: Global,
     circuit: &Circuit,
-    run: &Run,
+    run: &Watched,
     net: NetId,
     time: u64,
 ) -> Result<Answer, NoMemory>
     requires order { IsInOrder (length circuit.now.nets) (waveform_of run.now) }
-    requires few { length circuit.now.nets < 2 ^ 31 }
     requires net { net < length circuit.now.nets }
     requires time { time < 2 ^ 63 }
     ensures { IfOk result (λ a. TellsChain circuit.now (run_seen run.now) net time (answer_seen a)) }
 {
-    let trace = Trace::new(alloc, &run.first, &run.watched.events)?;
-    let told = net_causes(alloc, circuit, &trace, &run.watched.violations, net, time)?;
+    let trace = Trace::new(alloc, &run.first, &run.events)?;
+    let told = net_causes(alloc, circuit, &trace, &run.violations, net, time)?;
     Ok(Answer {
         status: Status::Clean,
         report: told.text,
@@ -88,29 +86,22 @@ fn told_chain(
 fn chain_answer(
     alloc: Global,
     circuit: &Circuit,
-    run: &Run,
+    run: &Watched,
     net: NetId,
     time: u64,
 ) -> Result<Answer, NoMemory>
     requires order { IsInOrder (length circuit.now.nets) (waveform_of run.now) }
-    requires few { length circuit.now.nets < 2 ^ 31 }
     requires net { net < length circuit.now.nets }
     requires time { time < 2 ^ 63 }
     ensures { IfOk result (λ a. IsChainAnswer circuit.now (run_seen run.now) net time (spent_by time (run_seen run.now).spent) (answer_seen a)) }
 {
-    match spent_by(time, run.watched.spent) {
+    match spent_by(time, run.spent) {
         Some(spent) => spent_answer(alloc, circuit, spent),
         None => told_chain(alloc, circuit, run, net, time),
     }
 }
 
-// The parts of a circuit fit together.
-fn recall_closed(circuit: &Circuit)
-    ensures { IsClosed circuit.now }
-{
-    let _ = circuit.parts();
-}
-
+// Of the net of a name.
 fn net_answer(
     alloc: Global,
     task: &Task,
@@ -126,7 +117,6 @@ fn net_answer(
     let Some(net) = find_net(alloc, &task.circuit, name.as_bytes())? else {
         return unknown_answer(alloc, "no net ", name);
     };
-    recall_closed(&task.circuit);
     let run = run_of(alloc, task, rounds)?;
     chain_answer(alloc, &task.circuit, &run, net, time)
 }
@@ -135,17 +125,16 @@ fn net_answer(
 fn parts_answer(
     alloc: Global,
     circuit: &Circuit,
-    run: &Run,
+    run: &Watched,
     place: usize,
 ) -> Result<Answer, NoMemory>
     requires order { IsInOrder (length circuit.now.nets) (waveform_of run.now) }
-    requires few { length circuit.now.nets < 2 ^ 31 }
-    requires bounded { All (λ v. IsBounded circuit.now v) run.now.watched.violations.items }
-    requires place { place < length run.now.watched.violations.items }
+    requires bounded { All (λ v. IsBounded circuit.now v) run.now.violations.items }
+    requires place { place < length run.now.violations.items }
     ensures { IfOk result (λ a. TellsViolation circuit.now (run_seen run.now) place (answer_seen a)) }
 {
-    let trace = Trace::new(alloc, &run.first, &run.watched.events)?;
-    let violations = run.watched.violations.as_slice();
+    let trace = Trace::new(alloc, &run.first, &run.events)?;
+    let violations = run.violations.as_slice();
     let report = violation_causes(alloc, circuit, &trace, violations, &violations[place])?;
     Ok(Answer {
         status: Status::Clean,
@@ -173,16 +162,10 @@ fn violation_answer(alloc: Global, task: &Task, rounds: u32, text: &str) -> Resu
     requires applied { IsApplied task.now.circuit (stimulus_seen task.now.input) }
     ensures { IfOk result (λ a. IsViolationAnswer (task_seen task.now) rounds text.now (answer_seen a)) }
 {
-    recall_closed(&task.circuit);
     let run = run_of(alloc, task, rounds)?;
-    match find_violation(
-        alloc,
-        &task.circuit,
-        &run.watched.violations,
-        text.as_bytes(),
-    )? {
+    match find_violation(alloc, &task.circuit, &run.violations, text.as_bytes())? {
         Some(place) => parts_answer(alloc, &task.circuit, &run, place),
-        None => unfound_answer(alloc, &task.circuit, run.watched.spent, text),
+        None => unfound_answer(alloc, &task.circuit, run.spent, text),
     }
 }
 
