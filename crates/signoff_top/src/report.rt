@@ -9,6 +9,7 @@ ghost use Rattle.run_report.specs.Reporting.{unmatched_seen};
 ghost use Rattle.run_report.specs.Spent.{end_spent, end_time, spent_seen};
 ghost use Rattle.signoff_top.specs.Answer.{status_of_run as end_status};
 ghost use Rattle.signoff_phases.specs.Phases.{refusal_line, save, save_kind};
+ghost use Rattle.signoff_top.specs.Phases.{usage};
 ghost use Rattle.signoff_phases.specs.Told.{Tells, TellsMade};
 ghost use Rattle.signoff_top.specs.Work.{TellsEnd, case_told, quiet_violations, settle_status};
 
