@@ -17,7 +17,7 @@ use Rattle.why_text.specs.Parting.{IsToldViolation}
 use Rattle.why_text.specs.Told.{IsTold}
 use Rattle.why_top.specs.Answer.{IsChainAnswer, IsNetAnswer, IsPartsAnswer, IsViolationAnswer, TellsChain, TellsViolation, no_net_line, spent_answer, spent_by, told, unfound_answer}
 use Rattle.why_top.specs.Runs.{Task, run_of}
-use Rattle.why_top.specs.Seen.{IsBounded, IsRunOf, answer_seen, run_seen, task_seen, waveform_of}
+use Rattle.why_top.specs.Seen.{IsRunOf, answer_seen, run_seen, task_seen, waveform_of}
 use Rattle.why_top.specs.declared.answers.Answer as code
 use Rattle.why_history.specs.declared.watched.Watched as code_run
 use Rattle.why_top.specs.declared.runs.Task as code_task
@@ -98,10 +98,9 @@ module _ {E : Type 0} where
   pub watched_run : (task : code_task.Task) (rounds : ℕ) (r : Result code_run.Watched E) → IfOk r (λ w. w.first.items ≡ (first_state task.circuit).values) → IfOk r (λ w. length w.first.items < 2 ^ 32) → IfOk r (λ w. length w.first.items ≡ length task.circuit.nets)
       → IfOk r (λ w. AreEvents (first_state task.circuit).values (run_of (task_seen task) rounds) w.events.items) → IfOk r (λ w. All (λ e. e.net < length w.first.items) w.events.items) → IfOk r (λ w. All (λ e. e.time < 2 ^ 60) w.events.items)
       → IfOk r (λ w. AllPairs (λ d e. d.time ≤ e.time) w.events.items) → IfOk r (λ w. map (λ v. violation_seen v) w.violations.items ≡ (run_of (task_seen task) rounds).run.violations)
-      → IfOk r (λ w. found_in w.spent ≡ (run_of (task_seen task) rounds).spent) → IfOk r (λ w. All (λ v. IsBounded task.circuit v) w.violations.items) → IfOk r (λ w. IsRunOf (task_seen task) rounds w)
-  watched_run task rounds (Ok w) first few values events nets times rise violations spent bounded = record {
+      → IfOk r (λ w. found_in w.spent ≡ (run_of (task_seen task) rounds).spent) → IfOk r (λ w. IsRunOf (task_seen task) rounds w)
+  watched_run task rounds (Ok w) first few values events nets times rise violations spent = record {
     run = record { first = first; events = events; violations = violations; spent = spent };
     order = record { values = values; few = few; nets = nets; times = times; rise = rise };
-    bounded = bounded;
   }
-  watched_run task rounds (Err e) first few values events nets times rise violations spent bounded = tt
+  watched_run task rounds (Err e) first few values events nets times rise violations spent = tt

@@ -52,7 +52,6 @@ IsBounded c v = (v.check < length c.check_timings) × (v.refer_time < 2 ^ 63) ×
 pub record IsRunOf (task : Task) (rounds : ℕ) (r : code_run.Watched) : Type 0 where
   pub run : IsRun task rounds (run_seen r)
   pub order : IsInOrder (length task.circuit.nets) (waveform_of r)
-  pub bounded : All (λ v. IsBounded task.circuit v) r.violations.items
 
 -- the time of a question has a next one
 abbrev pub IsSoon : code_question.Question → Type 0
