@@ -8,6 +8,8 @@ mod unmatched;
 mod violations;
 mod zeroed;
 
+pub use bits::push_bit;
 pub use paths::{push_net, push_path};
 pub use report::{ReportEnd, Spent, spent_text, write_report, write_stopped};
 pub use unmatched::push_unmatched;
+pub use violations::push_violation;

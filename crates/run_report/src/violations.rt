@@ -120,7 +120,8 @@ fn push_part(
     Ok(())
 }
 
-fn push_violation(
+/// Adds the line of a violation.
+pub fn push_violation(
     alloc: Global,
     text: &mut Vec<u8>,
     circuit: &Circuit,

@@ -11,15 +11,15 @@ use Rattle.run_words.specs.declared.subcommands.Subcommand.TheVariants.{Run, Res
 use Rattle.run_words.specs.Arguments.{Argument, arguments_of, is_text}
 use Rattle.run_words.specs.Words.{Asked, a_run, a_stop, a_rest, a_writing, the_bounds, a_case, Command, Design, Input, Stop, Writing, input_of, value_of, netlists_of, options_of, is_known, is_single, are_sound, corner_of, is_number, most_digits, number_up_to, default_corner, default_rounds, most_rounds, default_wheel, most_wheel, read_or, design_with, command_with, writing_with, stop_of, run_asked, asked_with, asked_from, subcommand_of, asked_by, case_of, asked_of}
 
-both : (a b : Bool) → (a && b) ≡ true → (a ≡ true) × (b ≡ true)
+pub both : (a b : Bool) → (a && b) ≡ true → (a ≡ true) × (b ≡ true)
 both false b e = cc
 both true b e = (refl, e)
 
-when_some : {A : Type 0} (b : Bool) (x : Option A) (y : A) → cond b x None ≡ Some y → (b ≡ true) × (x ≡ Some y)
+pub when_some : {A : Type 0} (b : Bool) (x : Option A) (y : A) → cond b x None ≡ Some y → (b ≡ true) × (x ≡ Some y)
 when_some false x y e = cc
 when_some true x y e = (refl, e)
 
-then_some : {A B : Type 0} (f : A → Option B) (o : Option A) (y : B) → option_and_then f o ≡ Some y → (x : A) × (o ≡ Some x) × (f x ≡ Some y)
+pub then_some : {A B : Type 0} (f : A → Option B) (o : Option A) (y : B) → option_and_then f o ≡ Some y → (x : A) × (o ≡ Some x) × (f x ≡ Some y)
 then_some f None y e = cc
 then_some f (Some x) y e = (x, refl, e)
 
@@ -45,6 +45,15 @@ unfolding Within
 read_within default most None low high = (low, high)
 read_within default most (Some text) low high = number_within most_digits most text
 
+-- the bound on the rounds of one time is 1 or more
+pub rounds_fit : (value : Option (List ℕ)) (r : ℕ) → read_or default_rounds (number_up_to most_digits most_rounds) value ≡ Some r → 1 ≤ r
+unfolding Within
+rounds_fit value r e = by (read_or default_rounds (number_up_to most_digits most_rounds) value) (read_within default_rounds most_rounds value (omega arith) (omega arith)) e
+  where
+    by : (o : Option ℕ) → IfSome o (λ n. (1 ≤ n) × (n ≤ most_rounds)) → o ≡ Some r → 1 ≤ r
+    by None h e = cc
+    by (Some k) h e = subst (λ n. 1 ≤ n) (same_Some k r e) h.0
+
 -- a design has a netlist; a run has one, allows one round or more, and its wheel has 1 to 1048576 slots
 pub record IsRunFit (c : Command) : Type 0 where
   pub netlists : 1 ≤ length c.design.netlists
@@ -59,7 +68,7 @@ IsFit (a_writing w) = 1 ≤ length w.design.netlists
 IsFit (the_bounds d) = 1 ≤ length d.netlists
 IsFit (a_case stages) = Unit {0}
 
-design_netlists : (netlists : List (List ℕ)) (arguments : List Argument) (d : Design) → design_with netlists arguments ≡ Some d → d.netlists ≡ netlists
+pub design_netlists : (netlists : List (List ℕ)) (arguments : List Argument) (d : Design) → design_with netlists arguments ≡ Some d → d.netlists ≡ netlists
 design_netlists netlists arguments d e = by (read_or default_corner corner_of (value_of (codes "corner") arguments)) e
   where
     made : Corner → Design
@@ -101,7 +110,7 @@ writing_netlists netlists arguments w e = by (design_with netlists arguments) (v
     by (Some d) None e h = cc
     by (Some d) (Some v) e h = ap (λ (x : Writing). x.design.netlists) (sym (same_Some (record { design = d; out = v }) w e)) ∙ h d refl
 
-mapped : {A B : Type 0} (f : A → B) (o : Option A) (b : B) → option_map f o ≡ Some b → (a : A) × (o ≡ Some a) × (f a ≡ b)
+pub mapped : {A B : Type 0} (f : A → B) (o : Option A) (b : B) → option_map f o ≡ Some b → (a : A) × (o ≡ Some a) × (f a ≡ b)
 mapped f None b e = cc
 mapped f (Some a) b e = (a, refl, same_Some (f a) b e)
 

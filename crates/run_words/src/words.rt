@@ -2,7 +2,7 @@
 ghost use Rattle.std.specs.Prelude.{◌≡◌, ◌↔◌, IsTrue, map, option_map, option_and_then, IfOk, codes, string_bytes};
 ghost use Rattle.run_words.specs.Arguments.{is_text, arguments_of};
 ghost use Rattle.run_words.specs.ArgumentsSeen.{argument_seen};
-ghost use Rattle.run_words.specs.Words.{value_of, command_with, asked_with, asked_from, asked_after, asked_by, asked_of, case_of, most_digits, number_up_to, read_or, rest_with, run_asked, run_with};
+ghost use Rattle.run_words.specs.Words.{value_of, command_with, asked_with, asked_from, asked_after, asked_by, asked_of, case_of, default_rounds, most_digits, most_rounds, number_up_to, read_or, rest_with, run_asked, run_with};
 ghost use Rattle.run_words.specs.WordsSeen.{asked_seen, command_seen, stop_seen};
 
 use crate::arguments::{Argument, read_arguments};
@@ -69,6 +69,13 @@ fn number_or(arguments: &[Argument<'_>], name: &str, most: u32, default: u32) ->
     }
 }
 
+/// The bound on the rounds of one time.
+pub fn rounds_of(arguments: &[Argument<'_>]) -> Option<u32>
+    ensures { result ≡ read_or default_rounds (number_up_to most_digits most_rounds) (value_of (codes "rounds") (map argument_seen arguments.now)) }
+{
+    number_or(arguments, "rounds", MOST_ROUNDS, DEFAULT_ROUNDS)
+}
+
 // The run of sound arguments and their netlists.
 fn command_with<'a>(netlists: Vec<&'a str>, arguments: &[Argument<'a>]) -> Option<Command<'a>>
     ensures { option_map (λ c. command_seen c) result ≡ command_with (map (λ n. n.now) netlists.entry.items) (map argument_seen arguments.now) }
@@ -76,7 +83,7 @@ fn command_with<'a>(netlists: Vec<&'a str>, arguments: &[Argument<'a>]) -> Optio
     let design = design_with(netlists, arguments)?;
     let input = input_of(arguments)?;
     let vcd = value_of(arguments, "vcd")?;
-    let rounds = number_or(arguments, "rounds", MOST_ROUNDS, DEFAULT_ROUNDS)?;
+    let rounds = rounds_of(arguments)?;
     let wheel = number_or(arguments, "wheel", MOST_WHEEL, DEFAULT_WHEEL)?;
     Some(Command {
         design,

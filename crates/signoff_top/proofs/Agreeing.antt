@@ -21,10 +21,10 @@ use Rattle.run_report.specs.Report.{Unmatched, path_of}
 use Rattle.written_model.specs.Faults as written
 use Rattle.written_model.specs.declared.errors.WriteError.{WriteError}
 use Rattle.written_model.specs.declared.errors.WriteError.TheVariants as error
-use Rattle.signoff_top.specs.declared.status.Status.TheVariants as status
-use Rattle.signoff_top.specs.Phases.{Annotated, Refusal, Then, stops, goes_on, Task, CaseOutcome, CommandOutcome, case_netlist, case_sdf, case_stimulus, status_of_refusal, unwritten, unwritten_by}
+use Rattle.signoff_phases.specs.declared.status.Status.TheVariants as status
+use Rattle.signoff_phases.specs.Phases.{Annotated, Refusal, Then, stops, goes_on, status_of_refusal, unwritten, AnnotatedOutcome, AnnotationOutcome, CircuitOutcome, DesignOutcome, EntriesOutcome, InputOutcome, SdfOutcome, FileOutcome, FilesOutcome, FileWithin, NetlistOutcome, StimulusOutcome, DrivingOutcome, WaveOutcome, read_limit, scope_or_top}
+use Rattle.signoff_top.specs.Phases.{Task, CaseOutcome, CommandOutcome, case_netlist, case_sdf, case_stimulus, unwritten_by, RestOutcome, SaveOutcome, TextOutcome, WritingOutcome, save_limit}
 use Rattle.signoff_top.proofs.OnceLaws.{adjusted-once}
-use Rattle.signoff_top.specs.Phases.{AnnotatedOutcome, AnnotationOutcome, CircuitOutcome, DesignOutcome, EntriesOutcome, InputOutcome, SdfOutcome, FileOutcome, FilesOutcome, FileWithin, RestOutcome, SaveOutcome, NetlistOutcome, StimulusOutcome, DrivingOutcome, TextOutcome, WaveOutcome, WritingOutcome, read_limit, save_limit, scope_or_top}
 
 -- two outcomes are one value, or two refusals of one status
 abbrev pub Agree : {A : Type 0} → Result A Refusal → Result A Refusal → Type 0

@@ -6,9 +6,10 @@ use Rattle.sg_circuit.specs.Circuit.{Circuit}
 use Rattle.sg_stimulus.specs.Stimulus.{Stimulus}
 use Rattle.gen_case.specs.Case.{netlist_of, sdf_of, stimulus_of}
 use Rattle.run_words.specs.Words.{default_corner}
-use Rattle.signoff_top.specs.Phases.{Annotated, EntriesOutcome, NetlistOutcome, StimulusOutcome, case_netlist, case_sdf, case_stimulus}
-use Rattle.signoff_top.specs.Stops.{Gives}
-use Rattle.signoff_top.specs.declared.stop.Stop as code_stop
+use Rattle.signoff_phases.specs.Phases.{Annotated, EntriesOutcome, NetlistOutcome, StimulusOutcome}
+use Rattle.signoff_top.specs.Phases.{case_netlist, case_sdf, case_stimulus}
+use Rattle.signoff_phases.specs.Stops.{Gives}
+use Rattle.signoff_phases.specs.declared.stop.Stop as code_stop
 
 pub netlist_given : {X : Type 0} {view : X → Circuit} {r : Result X code_stop.Stop} (stages : ℕ) (files : List (Vec ℕ)) (netlist : Vec ℕ) → files ≡ netlist ∷ [] → netlist.items ≡ netlist_of stages
     → Gives view (NetlistOutcome (case_netlist ∷ []) (map (λ f. f.items) files) None default_corner) r → Gives view (NetlistOutcome (case_netlist ∷ []) (netlist_of stages ∷ []) None default_corner) r

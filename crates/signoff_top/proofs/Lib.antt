@@ -1,9 +1,6 @@
 -- The modules of this folder.
-pub mod Putting
-pub mod Telling
-pub mod Composed
-pub mod Entries
-pub mod FilesRead
+pub mod Lent
+pub mod Failures
 pub mod WordsRead
 pub mod CaseLaws
 pub mod Making
@@ -12,7 +9,6 @@ pub mod Stopped
 pub mod OnceLaws
 pub mod Agreeing
 pub mod OneAnswer
-pub mod Outcomes
 pub mod MadeNames
 pub mod Ticks
 pub mod ProgramWords

@@ -5,10 +5,11 @@ use Rattle.sg_io.specs.Files.{File, bytes_of}
 use Rattle.sim_save.specs.Faults.{most_bytes}
 use Rattle.run_words.specs.Words.{Command, Asked, a_run, a_stop, a_rest, a_writing, the_bounds, a_case, made_in, made_of, Stop, Writing}
 use Rattle.signoff_top.specs.Answer.{Answer, IsAnswerFor, IsAnswerTo, answer_of, rest_answer, saved_answer, saved_of, stop_answer, stopped_answer, stopped_of, writing_answer}
-use Rattle.signoff_top.specs.Phases.{Refusal, Rest, Task, CommandOutcome, DesignOutcome, FileWithin, InputOutcome, RestOutcome, SaveOutcome, words, save_limit, Written}
+use Rattle.signoff_phases.specs.Phases.{Refusal, DesignOutcome, FileWithin, InputOutcome}
+use Rattle.signoff_top.specs.Phases.{Rest, Task, CommandOutcome, RestOutcome, SaveOutcome, save_limit, Written}
 use Rattle.signoff_top.proofs.OneAnswer.{nothing_made, nothing_settled}
 use Rattle.signoff_top.proofs.Making.{AreMadeAs, none_made}
-use Rattle.signoff_top.proofs.Outcomes.{OfValue, then_value}
+use Rattle.signoff_phases.proofs.Outcomes.{OfValue, then_value}
 
 -- the name of the dump that a task makes, or the rest of one, is that of the words
 abbrev Names : Command → Task → Type 0

@@ -2,14 +2,14 @@
 use Rattle.std.proofs.Common.{◌≡◌, ◌≢◌, ◌∙◌, sym, ap, subst, refl, inl, inr, ℕ, All, List, [], ◌∷◌, ◌++◌, length, arith}
 use Rattle.std.proofs.lemmas.List.{take_all}
 use Rattle.std.proofs.lemmas.List.Elements.{All-tail}
-use Rattle.std.specs.Prelude.{Option, Some, Result, Ok, Err}
+use Rattle.std.specs.Prelude.{Option, Some, Ok, Err}
 use Rattle.sg_io.specs.Files.{File, Appended, BothTell, Created, HasAfter, bytes_of}
 use Rattle.sg_io.specs.declared.outside.ShelfError.{ShelfError}
 use Rattle.sg_io.specs.declared.outside.ShelfError.TheVariants as shelf
 use Rattle.wave_out.specs.Files.{IsBegun, LeavesPrefix, LeavesWanting}
 use Rattle.signoff_top.specs.Answer.{FilesAfter}
 use Rattle.signoff_top.specs.Promises.{KeepsBut, KeepsByWords}
-use Rattle.signoff_top.proofs.Putting.{both_map, both_then}
+use Rattle.signoff_phases.proofs.Putting.{both_map, both_then}
 
 -- what is made, is begun
 whole_begun : (name bytes : List ℕ) (old new : List File) → HasAfter name bytes old new → LeavesPrefix name bytes old new

@@ -6,7 +6,8 @@ use Rattle.sg_io.specs.Files.{File}
 use Rattle.sg_circuit.specs.Circuit.{Circuit}
 use Rattle.run_words.specs.Words.{Asked, a_run, a_stop, a_rest, a_writing, the_bounds, a_case, Command, asked_of}
 use Rattle.signoff_top.specs.Answer.{Answer, IsAnswer, IsAnswerFor, IsAnswerTo, IsSettleAnswer, IsSettleAnswerOf, bounded, in_a_cycle, answer_of, case_answer, refusal_answer, rest_answer, stop_answer, writing_answer}
-use Rattle.signoff_top.specs.Phases.{Annotated, Refusal, Rest, Task, CaseOutcome, CommandOutcome, RestOutcome, WritingOutcome}
+use Rattle.signoff_phases.specs.Phases.{Annotated, Refusal}
+use Rattle.signoff_top.specs.Phases.{Rest, Task, CaseOutcome, CommandOutcome, RestOutcome, WritingOutcome}
 use Rattle.signoff_top.proofs.Agreeing.{Agree, AllAgree, case_agree, command_agree, design_agree, rest_agree, writing_agree}
 
 -- an answer that is made of an outcome, and is that of the refusal where it is one

@@ -10,27 +10,30 @@ use Rattle.wave_out.specs.Files.{IsBegun}
 use Rattle.run_report.specs.Spent.{spent_seen}
 use Rattle.run_dump.specs.RunEnds.{violations_of}
 use Rattle.run_words.specs.Words.{Asked, Writing, a_writing, asked_of, made_in, names_in}
-use Rattle.signoff_top.specs.Answer.{Answer, IsAnswer, refusal_answer, status_of_run, fault_line}
-use Rattle.signoff_top.specs.Phases.{Refusal, words, missing, netlist, save, sdf, stimulus, unwritten, status_of_refusal, refusal_line}
-use Rattle.signoff_top.specs.Promises.{ShelfTold, IsRight, FitsWords, HasAnswer, FaultAt, at_netlist, at_sdf, at_stimulus, at_state, at_made, NamesFaultAt, LeavesUnfinished, whole, till_fault, Outcome, answered, shelf_fault, sink_fault, no_memory, sink_want, IsExact, IsStatusOf, KeepsBut, KeepsByAnswer, KeepsByWords, IsUsage}
-use Rattle.signoff_top.specs.Putting.{PutsAll, PutsLast}
-use Rattle.signoff_top.specs.Putting as putting
-use Rattle.signoff_top.specs.Status.{IsDecided, IsRunEnd, is_run_end}
-use Rattle.signoff_top.specs.Stops.{refusal_seen, IfFailed, SparesWords, StopWords, end_of_phase}
-use Rattle.signoff_top.specs.Work.{LeavesDelays, WorkLeaves, Tells, TellsDone, TellsMade, TellsStop, TellsEnd, quiet_violations, settle_status, status_of_done, stop_violations, text_of_done}
-use Rattle.signoff_top.specs.Work as telling
-use Rattle.signoff_top.specs.declared.status.Status.{Status}
-use Rattle.signoff_top.specs.declared.status.Status.TheVariants as status
-use Rattle.signoff_top.specs.declared.stop.Stop as code_stop
-use Rattle.signoff_top.specs.declared.stop.Stop.TheVariants as stop
-use Rattle.signoff_top.specs.declared.stop.Refusal as code_refusal
-use Rattle.signoff_top.specs.declared.stop.Refusal.TheVariants as refusal
+use Rattle.signoff_top.specs.Answer.{Answer, IsAnswer, refusal_answer, status_of_run}
+use Rattle.signoff_phases.specs.Telling.{fault_line, whole, till_fault, ShelfTold}
+use Rattle.signoff_phases.specs.Phases.{Refusal, words, missing, netlist, save, sdf, stimulus, unwritten, status_of_refusal, refusal_line}
+use Rattle.signoff_top.specs.Phases.{usage as own_usage}
+use Rattle.signoff_top.specs.Promises.{IsRight, FitsWords, HasAnswer, FaultAt, at_netlist, at_sdf, at_stimulus, at_state, at_made, NamesFaultAt, LeavesUnfinished, Outcome, answered, shelf_fault, sink_fault, no_memory, sink_want, IsExact, IsStatusOf, KeepsBut, KeepsByAnswer, KeepsByWords, IsUsage}
+use Rattle.signoff_phases.specs.Putting.{PutsAll, PutsLast}
+use Rattle.signoff_phases.specs.Putting as putting
+use Rattle.signoff_phases.specs.Status.{IsDecided, IsRunEnd, is_run_end}
+use Rattle.signoff_phases.specs.Stops.{refusal_seen, IfFailed, SparesWords, StopWords, end_of_phase}
+use Rattle.signoff_top.specs.Work.{LeavesDelays, WorkLeaves, TellsDone, TellsEnd, quiet_violations, settle_status, status_of_done, stop_violations, text_of_done}
+use Rattle.signoff_phases.specs.Told.{Tells, TellsMade, TellsStop}
+use Rattle.signoff_phases.specs.Told as telling
+use Rattle.signoff_phases.specs.declared.status.Status.{Status}
+use Rattle.signoff_phases.specs.declared.status.Status.TheVariants as status
+use Rattle.signoff_phases.specs.declared.stop.Stop as code_stop
+use Rattle.signoff_phases.specs.declared.stop.Stop.TheVariants as stop
+use Rattle.signoff_phases.specs.declared.stop.Refusal as code_refusal
+use Rattle.signoff_phases.specs.declared.stop.Refusal.TheVariants as refusal
 use Rattle.signoff_top.specs.declared.work.Done as code_done
 use Rattle.signoff_top.specs.declared.work.Done.TheVariants as done
 use Rattle.signoff_top.proofs.OneAnswer.{one_status, one_made}
 use Rattle.signoff_top.proofs.MadeNames.{made_to}
 use Rattle.signoff_top.proofs.Making.{begun_after, begun_by_words, keeps_same, made_begun, same_by_words}
-use Rattle.signoff_top.proofs.Putting.{both_map}
+use Rattle.signoff_phases.proofs.Putting.{both_map}
 
 right_unfinished : (ws : List (List ℕ)) (how : Status) (text : List ℕ) (old new : List File) → IsRight ws how text old new → LeavesUnfinished ws old new
 right_unfinished ws how text old new r = inr (r.answer, r.right, made_begun r.answer.made old new r.files)
@@ -100,14 +103,14 @@ refused_no_want : (r : code_refusal.Refusal) → stop.Refused r ≡ stop.NoMemor
 refused_no_want r h = cc
 
 refusal_fits : (o : Option Asked) (P : Asked → code_done.Done → Type 0) (r : code_refusal.Refusal) → StopWords o P (Err (stop.Refused r))
-    → FitsWords o (status_of_refusal (refusal_seen r)) (refusal_line (refusal_seen r))
-refusal_fits None P r (inl h) = let e : r ≡ refusal.Words = refused_is r refusal.Words h in (ap (λ x. status_of_refusal (refusal_seen x)) e, ap (λ x. refusal_line (refusal_seen x)) e)
+    → FitsWords o (status_of_refusal (refusal_seen r)) (refusal_line own_usage (refusal_seen r))
+refusal_fits None P r (inl h) = let e : r ≡ refusal.Words = refused_is r refusal.Words h in (ap (λ x. status_of_refusal (refusal_seen x)) e, ap (λ x. refusal_line own_usage (refusal_seen x)) e)
 refusal_fits None P r (inr h) = absurd (refused_no_want r h)
 refusal_fits (Some asked) P r h = spares_fits r h
 
 -- a refusal is a right answer
 refused_right : (ws : List (List ℕ)) (r : code_refusal.Refusal) (old new : List File) → WorkLeaves ws (Err (stop.Refused r)) old new
-    → IsRight ws (status_of_refusal (refusal_seen r)) (refusal_line (refusal_seen r)) old new
+    → IsRight ws (status_of_refusal (refusal_seen r)) (refusal_line own_usage (refusal_seen r)) old new
 refused_right ws r old new h = record { answer = refusal_answer (refusal_seen r); right = h.0; status = refl; report = refl; files = h.1 }
 
 -- an answer, and how its report was told, which there was memory for
@@ -140,7 +143,7 @@ module _ (ws : List (List ℕ)) (how : Status) (shelf shelf' : ShelfTold) (sink 
   done_case (done.Case d) h b t = told_case ws _ how _ shelf shelf' sink sink' h (λ w e. absurd (b w e)) t
 
 failed_case : (ws : List (List ℕ)) (how : Status) (shelf shelf' : ShelfTold) (sink sink' : SinkTold)
-    → Rises shelf.faults shelf'.faults → NamesFaultAt ws shelf.files shelf'.files shelf'.last → TellsStop shelf'.last stop.Failed sink sink' how → Outcome ws shelf shelf' sink sink' how
+    → Rises shelf.faults shelf'.faults → NamesFaultAt ws shelf.files shelf'.files shelf'.last → TellsStop own_usage shelf'.last stop.Failed sink sink' how → Outcome ws shelf shelf' sink sink' how
 failed_case ws how shelf shelf' sink sink' c n t =
     subst (Outcome ws shelf shelf' sink sink') (sym t.0) (shelf_fault c n (subst (λ o. PutsLast (fault_line (unwrap_or o [])) sink sink') n.told t.1))
 
@@ -157,7 +160,7 @@ outcome ws (Ok d) how shelf shelf' sink sink' l c n w b t =
     }) b t
 outcome ws (Err (stop.Refused r)) how shelf shelf' sink sink' l c n w b t =
     let planned = status_of_refusal (refusal_seen r) in
-    let text = refusal_line (refusal_seen r) in
+    let text = refusal_line own_usage (refusal_seen r) in
     told_case ws planned how text shelf shelf' sink sink' (record {
       decided = refusal_decided (refusal_seen r);
       words = refusal_fits (asked_of ws) (λ _ _. Unit {0}) r w;

@@ -24,7 +24,8 @@ use Rattle.run_report.specs.Report.{Unmatched}
 use Rattle.rest_laws.proofs.RestLaws.{rest_is_the_rest}
 use Rattle.rest_laws.specs.Rests.{IsRest}
 use Rattle.signoff_top.specs.Answer.{Answer, IsAnswer, begun_dump, dump_of, rest_dump, rest_of, run_of, saved_answer, saved_of, stop_answer, stopped_of}
-use Rattle.signoff_top.specs.Phases.{CommandOutcome, FileWithin, Rest, RestOutcome, Task, goes_on, save_limit}
+use Rattle.signoff_top.specs.Phases.{CommandOutcome, Rest, RestOutcome, Task, save_limit}
+use Rattle.signoff_phases.specs.Phases.{FileWithin, goes_on}
 use Rattle.signoff_top.specs.Promises.{MakesWhole, ResumesWhole}
 use Rattle.signoff_top.specs.Tasks.{IsSound}
 use Rattle.signoff_top.proofs.OneAnswer.{one_rest}

@@ -1,5 +1,5 @@
 -- The task of a command that was read is sound.
-use Rattle.std.proofs.Common.{◌≡◌, ◌∙◌, sym, subst, ap, ℕ, List}
+use Rattle.std.proofs.Common.{◌≡◌, ◌∙◌, sym, subst, ℕ, List}
 use Rattle.std.specs.Prelude.{Option, Some, None, Result, Ok, Err}
 use Rattle.sg_io.specs.Files.{File}
 use Rattle.sg_io.specs.Put.{SinkTold}
@@ -7,15 +7,16 @@ use Rattle.sg_circuit.specs.Closed.{IsClosed}
 use Rattle.sg_stimulus.specs.Applied.{IsApplied}
 use Rattle.sg_stimulus.specs.Seen.{stimulus_seen}
 use Rattle.run_words.specs.Words.{Asked, Command, Writing, a_rest, a_writing}
-use Rattle.signoff_top.specs.Phases.{CommandOutcome, Refusal, Task, WordsOutcome}
-use Rattle.signoff_top.specs.Status.{IsDecided}
-use Rattle.signoff_top.specs.Stops.{Gives, UnlessCut, refusal_seen}
+use Rattle.signoff_top.specs.Phases.{CommandOutcome, Task}
+use Rattle.signoff_phases.specs.Phases.{Refusal, WordsOutcome}
+use Rattle.signoff_phases.specs.Status.{IsDecided}
+use Rattle.signoff_phases.specs.Stops.{Gives, UnlessCut, refusal_seen}
 use Rattle.signoff_top.specs.Tasks.{IsSound, task_seen}
 use Rattle.signoff_top.specs.Work.{TellsEnd}
 use Rattle.signoff_top.specs.declared.phases.Task as code_task
-use Rattle.signoff_top.specs.declared.status.Status.{Status}
-use Rattle.signoff_top.specs.declared.stop.Stop as code_stop
-use Rattle.signoff_top.specs.declared.stop.Stop.TheVariants as stop
+use Rattle.signoff_phases.specs.declared.status.Status.{Status}
+use Rattle.signoff_phases.specs.declared.stop.Stop as code_stop
+use Rattle.signoff_phases.specs.declared.stop.Stop.TheVariants as stop
 use Rattle.signoff_top.specs.declared.work.Done as code_done
 use Rattle.signoff_top.proofs.Agreeing.{command_agree}
 

@@ -12,12 +12,12 @@ use Rattle.run_report.specs.Report.{stopped_lines}
 use Rattle.signoff_top.specs.Answer.{Answer, FilesAfter, IsAnswer, answer_of, begun_dump, refusal_answer, rest_answer, rest_dump, saved_answer, saved_of, status_of_run, stop_answer, stopped_answer, stopped_of}
 use Rattle.signoff_top.specs.Phases.{RestOutcome, Task}
 use Rattle.signoff_top.specs.Promises.{KeepsBut, NamesFaultAt}
-use Rattle.signoff_top.specs.Stops.{Gives}
+use Rattle.signoff_phases.specs.Stops.{Gives}
 use Rattle.signoff_top.specs.Tasks.{rest_seen, task_seen}
 use Rattle.signoff_top.specs.Work.{Answers, HasStopped, IsSaved, SavesFrom, WorkLeaves, stop_of_done}
 use Rattle.signoff_top.specs.declared.phases.Task as code_task
-use Rattle.signoff_top.specs.declared.stop.Stop as code_stop
-use Rattle.signoff_top.specs.declared.stop.Stop.TheVariants as stop
+use Rattle.signoff_phases.specs.declared.stop.Stop as code_stop
+use Rattle.signoff_phases.specs.declared.stop.Stop.TheVariants as stop
 use Rattle.signoff_top.specs.declared.stopping.Rest as code_rest
 use Rattle.signoff_top.specs.declared.work.Done.TheVariants as done
 use Rattle.signoff_top.specs.declared.work.StopDone as code_stopped

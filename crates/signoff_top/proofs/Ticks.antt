@@ -8,8 +8,9 @@ use Rattle.sdf_tree.specs.Meant.{Sdf}
 use Rattle.run_words.specs.Words.{Command, Design}
 use Rattle.sdf_write.proofs.ScopeLaws.{read-has_named_scopes}
 use Rattle.written_reading.specs.Named.{IsTick}
-use Rattle.signoff_top.specs.Phases.{Annotated, Refusal, Task, AnnotatedOutcome, AnnotationOutcome, CircuitOutcome, CommandOutcome, DesignOutcome, EntriesOutcome, FileOutcome, FilesOutcome, InputOutcome, NetlistOutcome, SdfOutcome}
-use Rattle.signoff_top.proofs.Outcomes.{OfValue, then_value}
+use Rattle.signoff_phases.specs.Phases.{Annotated, Refusal, AnnotatedOutcome, AnnotationOutcome, CircuitOutcome, DesignOutcome, EntriesOutcome, FileOutcome, FilesOutcome, InputOutcome, NetlistOutcome, SdfOutcome}
+use Rattle.signoff_top.specs.Phases.{Task, CommandOutcome}
+use Rattle.signoff_phases.proofs.Outcomes.{OfValue, then_value}
 
 abbrev CircuitTick : Circuit → Type 0
 CircuitTick c = IsTick c.tick

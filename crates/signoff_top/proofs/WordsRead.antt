@@ -8,7 +8,7 @@ use Rattle.run_words.specs.declared.words.Asked.TheVariants as asked
 use Rattle.run_words.specs.Words.{asked_of}
 use Rattle.run_words.specs.WordsSeen.{asked_seen, command_seen}
 use Rattle.run_words.proofs.Laws.{IsFit, IsRunFit, asked-fit}
-use Rattle.signoff_top.specs.Stops.{IsReady, IsRunReady}
+use Rattle.signoff_top.specs.Tasks.{IsReady, IsRunReady}
 
 run_ready : (c : code_command.Command) → IsRunFit (command_seen c) → IsRunReady c
 run_ready c h =

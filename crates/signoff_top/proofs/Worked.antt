@@ -14,23 +14,25 @@ use Rattle.run_report.specs.Report.{report_lines, report_text}
 use Rattle.run_report.specs.Spent.{spent_seen}
 use Rattle.run_dump.specs.RunEnds.{violations_of}
 use Rattle.signoff_top.specs.Answer.{Answer, FilesAfter, IsAnswer, IsAnswerFor, IsAnswerTo, answer_of, case_answer, case_lines, case_text, dump_of, last_of, refusal_answer, run_of, status_of_run, writing_answer, written_lines}
-use Rattle.signoff_top.specs.Phases.{Refusal, Task, WordsOutcome, CommandOutcome, DesignOutcome, CaseOutcome, Written, WritingOutcome, stops, words}
+use Rattle.signoff_phases.specs.Phases.{Refusal, WordsOutcome, DesignOutcome, stops, words}
+use Rattle.signoff_top.specs.Phases.{Task, CommandOutcome, CaseOutcome, Written, WritingOutcome}
 use Rattle.signoff_top.specs.Promises.{FaultAt, at_made, KeepsBut, NamesFaultAt}
-use Rattle.signoff_top.specs.Stops.{Gives, IfOutcome, SparesWords, StopWords, refusal_seen}
-use Rattle.signoff_top.specs.Tasks.{annotated_seen, task_seen, written_seen}
+use Rattle.signoff_phases.specs.Stops.{Gives, IfOutcome, SparesWords, StopWords, refusal_seen}
+use Rattle.signoff_phases.specs.AnnotatedSeen.{annotated_seen}
+use Rattle.signoff_top.specs.Tasks.{task_seen, written_seen}
 use Rattle.signoff_top.specs.Work.{Answers, IsQuietEnd, IsSettleDone, LeavesDelays, WorkLeaves, case_told, quiet_violations}
-use Rattle.signoff_top.specs.declared.annotation.Annotated as code_annotated
+use Rattle.signoff_phases.specs.declared.annotation.Annotated as code_annotated
 use Rattle.signoff_top.specs.declared.bounds.BoundsDone as code_bounds
 use Rattle.signoff_top.specs.declared.phases.Task as code_task
 use Rattle.signoff_top.specs.declared.writing.Written as code_written
 use Rattle.signoff_top.specs.declared.writing.WritingDone as code_writing
-use Rattle.signoff_top.specs.declared.stop.Stop as code_stop
-use Rattle.signoff_top.specs.declared.stop.Stop.TheVariants as stop
+use Rattle.signoff_phases.specs.declared.stop.Stop as code_stop
+use Rattle.signoff_phases.specs.declared.stop.Stop.TheVariants as stop
 use Rattle.signoff_top.specs.declared.work.Done.TheVariants as done
 use Rattle.signoff_top.specs.declared.work.CaseDone as code_case
 use Rattle.signoff_top.specs.declared.work.RunDone as code_run
 use Rattle.signoff_top.proofs.Making.{begun_after}
-use Rattle.signoff_top.proofs.Putting.{both_same}
+use Rattle.signoff_phases.proofs.Putting.{both_same}
 
 -- an answer for what the words ask
 pub asked_answers : (ws : List (List ℕ)) (asked : Asked) (files : List File) (a : Answer) → asked_of ws ≡ Some asked → IsAnswerTo (Some asked) files a → IsAnswer ws files a

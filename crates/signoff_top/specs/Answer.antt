@@ -19,9 +19,10 @@ use Rattle.settle_report.specs.Texts.{bounds_text, cycle_text}
 use Rattle.wave_out.specs.Texts.{line}
 use Rattle.wave_out.specs.Vcd.{vcd_begun, vcd_rest, vcd_text}
 use Rattle.run_report.specs.Report.{Unmatched, report_text, spent_line, stopped_lines, unmatched_line}
-use Rattle.signoff_top.specs.Phases.{Annotated, Refusal, Rest, Task, CaseOutcome, CommandOutcome, DesignOutcome, RestOutcome, Written, WritingOutcome, status_of_refusal, refusal_line, save, save_kind, words}
-use Rattle.signoff_top.specs.declared.status.Status.{Status}
-use Rattle.signoff_top.specs.declared.status.Status.TheVariants as status
+use Rattle.signoff_phases.specs.Phases.{Annotated, Refusal, DesignOutcome, status_of_refusal, refusal_line, save, save_kind, words}
+use Rattle.signoff_top.specs.Phases.{Rest, Task, CaseOutcome, CommandOutcome, RestOutcome, Written, WritingOutcome, usage}
+use Rattle.signoff_phases.specs.declared.status.Status.{Status}
+use Rattle.signoff_phases.specs.declared.status.Status.TheVariants as status
 
 pub record Answer : Type 0 where
   pub status : Status
@@ -30,7 +31,7 @@ pub record Answer : Type 0 where
 
 -- a refusal
 abbrev pub refusal_answer : Refusal → Answer
-refusal_answer r = record { status = status_of_refusal r; made = []; report = refusal_line r }
+refusal_answer r = record { status = status_of_refusal r; made = []; report = refusal_line usage r }
 
 -- the run of a task
 abbrev pub run_of : Task → Finished
@@ -68,7 +69,7 @@ saved_of task stop = save_text task.circuit (moment_after task.circuit stop.time
 
 -- the text is saved; or, where it is too large, that is told in place of the report
 abbrev pub saved_answer : (too_large : Bool) → Task → Stop → Answer
-saved_answer true task stop = record { status = status.Save; made = begun_dump task stop ∷ []; report = refusal_line (save stop.save 1 (save_kind saved_kind.TooLarge)) }
+saved_answer true task stop = record { status = status.Save; made = begun_dump task stop ∷ []; report = refusal_line usage (save stop.save 1 (save_kind saved_kind.TooLarge)) }
 saved_answer false task stop = record {
   status = status_of_run None (stopped_of task stop).run.violations;
   made = begun_dump task stop ∷ record { name = stop.save; bytes = saved_of task stop } ∷ [];
@@ -179,13 +180,3 @@ abbrev pub FilesAfter : List File → List File → List File → Type 0
 FilesAfter [] old new = new ≡ old
 FilesAfter (f ∷ []) old new = HasAfter f.name f.bytes old new
 FilesAfter (f ∷ g ∷ more) old new = (mid : List File) × HasAfter f.name f.bytes old mid × FilesAfter (g ∷ more) mid new
-
--- the lines of a fault, of a fault of the report's own sink, and of want of memory
-abbrev pub fault_line : List ℕ → List ℕ
-fault_line name = line (codes "fault: " ++ name)
-
-abbrev pub report_fault_line : List ℕ
-report_fault_line = fault_line (codes "report")
-
-abbrev pub no_memory_line : List ℕ
-no_memory_line = line (codes "no memory")

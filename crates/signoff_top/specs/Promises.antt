@@ -6,20 +6,16 @@ use Rattle.sg_io.specs.Files.{File, BothTell, HasAfter, bytes_of}
 use Rattle.sg_io.specs.Put.{SinkTold}
 use Rattle.sg_circuit.specs.Circuit.{Circuit}
 use Rattle.sg_model.specs.Machine.{Violation}
-use Rattle.signoff_top.specs.Answer.{Answer, IsAnswer, FilesAfter, dump_of, fault_line, no_memory_line, report_fault_line, rest_answer, rest_dump, rest_of, run_of, saved_of, stop_answer, stopped_of}
+use Rattle.signoff_top.specs.Answer.{Answer, IsAnswer, FilesAfter, dump_of, rest_answer, rest_dump, rest_of, run_of, saved_of, stop_answer, stopped_of}
+use Rattle.signoff_phases.specs.Telling.{fault_line, no_memory_line, report_fault_line, PutsReport, ShelfTold}
 use Rattle.run_words.specs.Words.{Asked, Command, Design, Stop, Writing, a_rest, a_writing, asked_of, command_of, design_of, file_of, names_in}
-use Rattle.signoff_top.specs.Phases.{Annotated, Rest, Task, CircuitOutcome, CommandOutcome, DesignOutcome, FilesOutcome, usage_line}
-use Rattle.signoff_top.specs.Putting.{PutsAll, PutsTillFault, PutsTillWant, PutsLast}
+use Rattle.signoff_phases.specs.Phases.{Annotated, CircuitOutcome, DesignOutcome, FilesOutcome}
+use Rattle.signoff_top.specs.Phases.{Rest, Task, CommandOutcome, usage_line}
+use Rattle.signoff_phases.specs.Putting.{PutsTillFault, PutsTillWant, PutsLast}
 use Rattle.wave_out.specs.Files.{IsBegun, LeavesPrefix}
-use Rattle.signoff_top.specs.Status.{IsDecided, IsRunEnd}
-use Rattle.signoff_top.specs.declared.status.Status.{Status}
-use Rattle.signoff_top.specs.declared.status.Status.TheVariants as status
-
--- what a shelf tells: its files, where it does; how many calls failed, and the name in the last of them
-pub record ShelfTold : Type 0 where
-  pub files : Option (List File)
-  pub faults : ℕ
-  pub last : Option (List ℕ)
+use Rattle.signoff_phases.specs.Status.{IsDecided, IsRunEnd}
+use Rattle.signoff_phases.specs.declared.status.Status.{Status}
+use Rattle.signoff_phases.specs.declared.status.Status.TheVariants as status
 
 -- a right answer for the files before: its status, its report, and the file that it makes
 pub record IsRight (ws : List (List ℕ)) (how : Status) (text : List ℕ) (old new : List File) : Type 0 where
@@ -69,11 +65,6 @@ KeepsBut (f ∷ g ∷ more) old new = LeavesPrefix f.name f.bytes old new ⊎ ((
 -- all files are as before, or those which a right answer makes were begun
 abbrev pub LeavesUnfinished : List (List ℕ) → List File → List File → Type 0
 LeavesUnfinished ws old new = (new ≡ old) ⊎ ((answer : Answer) × IsAnswer ws old answer × KeepsBut answer.made old new)
-
--- a report was put: all of it; or, but at the end of a run, its first bytes till a call failed
-pub data PutsReport (how : Status) (text : List ℕ) (old new : SinkTold) : Type 0 where
-  whole : PutsAll text old new → PutsReport how text old new
-  till_fault : (IsRunEnd how → ⊥) → PutsTillFault text old new → PutsReport how text old new
 
 -- How the call went, by the status that comes.
 pub data Outcome (ws : List (List ℕ)) (shelf shelf' : ShelfTold) (sink sink' : SinkTold) : Status → Type 0 where

@@ -1,5 +1,5 @@
 -- What joins the code of the work on the shelf, and of the telling to the sink, to the cases of the top call.
-use Rattle.std.specs.Prelude.{ℕ, ◌≡◌, ◌≤◌, Bool, List, [], ◌∷◌, length, map, Option, Some, None, Result, Ok, Err, unwrap_or, if◌then◌else◌}
+use Rattle.std.specs.Prelude.{ℕ, ◌≡◌, ◌≤◌, Bool, List, [], ◌∷◌, length, map, Option, Some, None, Result, Ok, Err, if◌then◌else◌}
 use Rattle.sg_io.specs.Files.{File, BothTell}
 use Rattle.sg_io.specs.Put.{SinkTold}
 use Rattle.sg_circuit.specs.Circuit.{Circuit}
@@ -16,17 +16,17 @@ use Rattle.time_checks.specs.Seen.{violation_seen}
 use Rattle.run_dump.specs.RunEnds.{violations_of}
 use Rattle.run_dump.specs.declared.run.QuietEnd as code_quiet
 use Rattle.sim_times.specs.Times.{count_shown}
-use Rattle.signoff_top.specs.Answer.{Answer, FilesAfter, IsAnswer, IsSettleAnswer, begun_dump, refusal_answer, run_of, last_of, case_text, saved_of, status_of_run, stopped_answer, stopped_of, fault_line, report_fault_line, no_memory_line}
-use Rattle.signoff_top.specs.Phases.{Task, refusal_line, save, save_kind, status_of_refusal}
-use Rattle.signoff_top.specs.Promises.{IsRight, LeavesUnfinished, PutsReport}
-use Rattle.signoff_top.specs.Putting.{PutsTillFault, PutsTillWant, PutsLast}
-use Rattle.signoff_top.specs.Status.{IsRunEnd}
-use Rattle.signoff_top.specs.Stops.{refusal_seen}
+use Rattle.signoff_top.specs.Answer.{Answer, FilesAfter, IsAnswer, IsSettleAnswer, begun_dump, refusal_answer, run_of, last_of, case_text, saved_of, status_of_run, stopped_answer, stopped_of}
+use Rattle.signoff_top.specs.Phases.{Task, usage}
+use Rattle.signoff_phases.specs.Told.{Tells, TellsMade, TellsStop}
+use Rattle.signoff_phases.specs.Phases.{refusal_line, save, save_kind}
+use Rattle.signoff_top.specs.Promises.{IsRight, LeavesUnfinished}
+use Rattle.signoff_phases.specs.Stops.{refusal_seen}
 use Rattle.signoff_top.specs.Tasks.{task_seen}
-use Rattle.signoff_top.specs.declared.status.Status.{Status}
-use Rattle.signoff_top.specs.declared.status.Status.TheVariants as status
-use Rattle.signoff_top.specs.declared.stop.Stop as code_stop
-use Rattle.signoff_top.specs.declared.stop.Stop.TheVariants as stop
+use Rattle.signoff_phases.specs.declared.status.Status.{Status}
+use Rattle.signoff_phases.specs.declared.status.Status.TheVariants as status
+use Rattle.signoff_phases.specs.declared.stop.Stop as code_stop
+use Rattle.signoff_phases.specs.declared.stop.Stop.TheVariants as stop
 use Rattle.signoff_top.specs.declared.work.Done as code_done
 use Rattle.signoff_top.specs.declared.work.Done.TheVariants as done
 use Rattle.signoff_top.specs.declared.work.CaseDone as code_case
@@ -100,7 +100,7 @@ status_of_done (done.Case d) = status_of_run (spent_seen d.end.spent) (quiet_vio
 abbrev pub text_of_done : code_done.Done → List ℕ
 text_of_done (done.Run d) = report_lines d.task.circuit (task_seen d.task).unmatched (violations_of d.end) d.task.input.end (spent_seen d.end.spent)
 text_of_done (done.Stop d) = stopped_lines d.task.circuit (task_seen d.task).unmatched (stop_violations d) d.time
-text_of_done (done.Unsaved d) = refusal_line (save d.save.now 1 (save_kind saved_kind.TooLarge))
+text_of_done (done.Unsaved d) = refusal_line usage (save d.save.now 1 (save_kind saved_kind.TooLarge))
 text_of_done (done.Writing d) = d.report.items
 text_of_done (done.Bounds d) = d.text.items
 text_of_done (done.Case d) = case_told d
@@ -124,23 +124,6 @@ LeavesDelays out (Err (stop.Refused r)) old new = Unit {0}
 LeavesDelays out (Err stop.Failed) old new = Unit {0}
 LeavesDelays out (Err stop.NoMemory) old new = BothTell old new (IsBegun out)
 
--- A text that there was memory for was to be put, with a status: it was; or the sink failed, or found no memory.
-pub data TellsMade (text : List ℕ) (planned : Status) (old new : SinkTold) : Status → Type 0 where
-  told : PutsReport planned text old new → TellsMade text planned old new planned
-  fault : (cut : SinkTold) → IsRunEnd planned → PutsTillFault text old cut → PutsLast report_fault_line cut new → TellsMade text planned old new status.Fault
-  want : (cut : SinkTold) → PutsTillWant [] old cut → PutsLast no_memory_line cut new → TellsMade text planned old new status.NoMemory
-
--- the same of any text; or there was no memory for it
-pub data Tells (text : List ℕ) (planned : Status) (old new : SinkTold) : Status → Type 0 where
-  made : (how : Status) → TellsMade text planned old new how → Tells text planned old new how
-  no_memory : PutsLast no_memory_line old new → Tells text planned old new status.NoMemory
-
--- how it was told why the work ended before its report, where the shelf names this file
-abbrev pub TellsStop : Option (List ℕ) → code_stop.Stop → SinkTold → SinkTold → Status → Type 0
-TellsStop named (stop.Refused r) old new how = Tells (refusal_line (refusal_seen r)) (status_of_refusal (refusal_seen r)) old new how
-TellsStop named stop.Failed old new how = (how ≡ status.Fault) × PutsLast (fault_line (unwrap_or named [])) old new
-TellsStop named stop.NoMemory old new how = (how ≡ status.NoMemory) × PutsLast no_memory_line old new
-
 -- how it was told what was done: the report of a writing was made before its file
 abbrev pub TellsDone : code_done.Done → SinkTold → SinkTold → Status → Type 0
 TellsDone (done.Run d) old new how = Tells (text_of_done (done.Run d)) (status_of_done (done.Run d)) old new how
@@ -153,4 +136,4 @@ TellsDone (done.Case d) old new how = Tells (text_of_done (done.Case d)) (status
 -- how the end of the work was told
 abbrev pub TellsEnd : Option (List ℕ) → Result code_done.Done code_stop.Stop → SinkTold → SinkTold → Status → Type 0
 TellsEnd named (Ok d) old new how = TellsDone d old new how
-TellsEnd named (Err s) old new how = TellsStop named s old new how
+TellsEnd named (Err s) old new how = TellsStop usage named s old new how

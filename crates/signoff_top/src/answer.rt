@@ -5,12 +5,12 @@ ghost use Rattle.sg_io.specs.Faults.{Rose};
 ghost use Rattle.run_words.specs.Words.{asked_of, made_in};
 ghost use Rattle.signoff_top.specs.Answer.{Answer, IsAnswer};
 ghost use Rattle.signoff_top.specs.Promises.{IsExact, IsRight, IsStatusOf, IsUsage, KeepsByAnswer, KeepsByWords, Outcome, ResumesWhole};
-ghost use Rattle.signoff_top.specs.Status.{IsDecided, IsRunEnd};
+ghost use Rattle.signoff_phases.specs.Status.{IsDecided, IsRunEnd};
 
 use crate::report::tell;
-use crate::status::Status;
 use crate::work::work;
 use sg_io::{Shelf, Sink};
+use signoff_phases::Status;
 use std::alloc::Global;
 
 /// Does what the words after the program's name ask for: reads the netlist from the shelf, annotates it with the delays and

@@ -1,17 +1,15 @@
 // The phases of a generated case.
-ghost use Rattle.std.specs.Prelude.{◌≡◌, ◌≤◌, IfErr, IfOk};
+ghost use Rattle.std.specs.Prelude.{◌≤◌, IfErr, IfOk};
 ghost use Rattle.sg_stimulus.specs.Applied.{IsApplied};
 ghost use Rattle.sg_stimulus.specs.Seen.{stimulus_seen};
 ghost use Rattle.signoff_top.specs.Phases.{CaseOutcome};
-ghost use Rattle.signoff_top.specs.Stops.{Gives, NeverFails, SparesWords};
+ghost use Rattle.signoff_phases.specs.Stops.{Gives, NeverFails, SparesWords};
 ghost use Rattle.signoff_top.specs.Tasks.{task_seen};
 
-use crate::annotation::apply_text;
-use crate::inputs::stimulus_phase;
-use crate::phases::{Task, netlist_phase};
-use crate::stop::Stop;
+use crate::phases::Task;
 use gen_case::{GeneratedCase, gen_case};
 use sg_delay::Corner;
+use signoff_phases::{Stop, apply_text, netlist_phase, stimulus_phase};
 use std::alloc::Global;
 use std::slice;
 

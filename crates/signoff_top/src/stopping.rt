@@ -1,5 +1,5 @@
 // Runs that are stopped and saved, and runs that go on from a save.
-ghost use Rattle.std.specs.Prelude.{◌≡◌, ◌≤◌, ◌<◌, ℕ, List, Ok, Some, IfErr, IfOk, length, map};
+ghost use Rattle.std.specs.Prelude.{◌≡◌, ◌≤◌, ◌<◌, ℕ, List, Ok, Some, IfErr, IfOk, length};
 ghost use Rattle.sg_io.specs.Faults.{Cause};
 ghost use Rattle.sg_io.specs.Files.{File};
 ghost use Rattle.sg_circuit.specs.Closed.{IsClosed};
@@ -11,15 +11,15 @@ ghost use Rattle.run_words.specs.Words.{a_rest, asked_of};
 ghost use Rattle.run_words.specs.WordsSeen.{command_seen};
 ghost use Rattle.signoff_top.specs.Phases.{CommandOutcome, RestOutcome, SaveOutcome, Task as TheTask};
 ghost use Rattle.signoff_top.specs.Promises.{NamesFaultAt};
-ghost use Rattle.signoff_top.specs.Stops.{Gives, IfFailed, NeverFails, SparesWords, UnlessCut, end_of_phase};
+ghost use Rattle.signoff_phases.specs.Stops.{Gives, IfFailed, NeverFails, SparesWords, UnlessCut, end_of_phase};
 ghost use Rattle.signoff_top.specs.Tasks.{IsSound, rest_seen};
 
-use crate::phases::{Task, file_within, task_of};
-use crate::stop::{Refusal, Stop};
+use crate::phases::{Task, task_of};
 use run_words::Command;
 use sg_circuit::Circuit;
 use sg_io::Shelf;
 use sg_text::Refused;
+use signoff_phases::{Refusal, Stop, file_within};
 use sim_rounds::Moment;
 use sim_save::read_save;
 use std::alloc::Global;

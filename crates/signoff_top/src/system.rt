@@ -1,49 +1,16 @@
 // The program round its top call: what it makes of the system's words, and the number with which it ends.
-ghost use Rattle.std.specs.Prelude.{◌≡◌, ◌↔◌, IfOk, IsTrue, drop};
-ghost use Rattle.std.specs.IoError.{error_kind};
+ghost use Rattle.std.specs.Prelude.{◌≡◌};
 ghost use Rattle.std.specs.Process.{exit_status};
-ghost use Rattle.std.specs.Vec.Iter.{into_iter_items};
-ghost use Rattle.signoff_top.specs.Status.{code_of};
-ghost use Rattle.signoff_top.specs.Program.{Ends, WordsOf};
+ghost use Rattle.signoff_phases.specs.Status.{code_of};
+ghost use Rattle.signoff_top.specs.Program.{Ends};
 
 use crate::answer::top;
-use crate::report::tell_no_memory;
-use crate::status::Status;
 use sg_io::{Shelf, Sink};
-use std::alloc::{AllocError, Global};
+use signoff_phases::{Status, tell_no_memory, words_of};
+use std::alloc::Global;
 use std::env::Args;
-use std::io::{self, ErrorKind};
+use std::io;
 use std::process::ExitCode;
-
-fn is_want(error: &io::Error) -> bool
-    ensures { IsTrue result ↔ (error_kind error.now ≡ ErrorKind.OutOfMemory) }
-{
-    error.kind() == ErrorKind::OutOfMemory
-}
-
-// The words that are left after the first.
-fn without_first(alloc: Global, args: Args) -> Result<Vec<String>, AllocError>
-    ensures { IfOk result (λ words. words.items ≡ drop 1 (into_iter_items args)) }
-{
-    let mut left = args;
-    let _ = left.next();
-    let mut words = Vec::new(alloc);
-    for word in left {
-        words.push(word)?;
-    }
-    Ok(words)
-}
-
-// The words after the program's name. Words of which one isn't text are none.
-fn words_of(alloc: Global, args: io::Result<Args>) -> Result<Vec<String>, AllocError>
-    ensures { WordsOf args result }
-{
-    match args {
-        Ok(args) => without_first(alloc, args),
-        Err(error) if is_want(&error) => Err(AllocError),
-        Err(_) => Ok(Vec::new(alloc)),
-    }
-}
 
 // The status by which the top call ends on these words.
 fn status_of<S: Shelf, K: Sink>(

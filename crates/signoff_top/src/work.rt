@@ -12,14 +12,13 @@ ghost use Rattle.run_words.specs.WordsSeen.{command_seen, design_seen, stop_seen
 ghost use Rattle.signoff_top.specs.Answer.{FilesAfter, answer_of, begun_dump, stop_answer, stopped_of};
 ghost use Rattle.signoff_top.specs.Phases.{CommandOutcome, Task as TheTask};
 ghost use Rattle.signoff_top.specs.Promises.{NamesFaultAt};
-ghost use Rattle.signoff_top.specs.Stops.{IfFailed, NeverFails, SparesWords, StopWords, UnlessCut, end_of_phase};
+ghost use Rattle.signoff_phases.specs.Stops.{IfFailed, NeverFails, SparesWords, StopWords, UnlessCut, end_of_phase};
 ghost use Rattle.signoff_top.specs.Tasks.{IsSound, task_seen};
 ghost use Rattle.signoff_top.specs.Work.{Answers, HasStopped, IsSaved, LeavesDelays, SavesFrom, WorkLeaves};
 
 use crate::bounds::{BoundsDone, bounds_of};
 use crate::generated::case_task;
-use crate::phases::{Task, annotated_of, task_of, words_phase};
-use crate::stop::Stop;
+use crate::phases::{Task, task_of, words_phase};
 use crate::stopping::rest_of;
 use crate::writing::{WritingDone, make_file, written_of, written_report};
 use run_dump::{
@@ -27,6 +26,7 @@ use run_dump::{
 };
 use run_words::{Asked, Command, Design, Writing};
 use sg_io::{Shelf, ShelfError};
+use signoff_phases::{Stop, annotated_of};
 use sim_rounds::Moment;
 use sim_save::{SaveError, save_text};
 use std::alloc::Global;

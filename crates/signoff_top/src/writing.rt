@@ -11,20 +11,19 @@ ghost use Rattle.run_report.specs.Report.{path_of};
 ghost use Rattle.run_report.specs.Reporting.{unmatched_seen};
 ghost use Rattle.written_model.specs.Faults.{FaultStands};
 ghost use Rattle.signoff_top.specs.Answer.{written_lines};
-ghost use Rattle.signoff_top.specs.Phases.{TextOutcome, WritingOutcome, unwritten, unwritten_by};
+ghost use Rattle.signoff_top.specs.Phases.{TextOutcome, WritingOutcome, unwritten_by};
+ghost use Rattle.signoff_phases.specs.Phases.{unwritten};
 ghost use Rattle.signoff_top.specs.Promises.{NamesFaultAt};
-ghost use Rattle.signoff_top.specs.Stops.{Gives, IfFailed, NeverFails, SparesWords, end_of_phase};
+ghost use Rattle.signoff_phases.specs.Stops.{Gives, IfFailed, NeverFails, SparesWords, end_of_phase};
 ghost use Rattle.signoff_top.specs.Tasks.{written_seen};
 
-use crate::annotation::Annotated;
-use crate::phases::annotated_of;
-use crate::stop::{Refusal, Stop};
 use crate::summary::push_count;
 use run_report::{push_path, push_unmatched};
 use run_words::Writing;
 use sdf_write::{WriteError, sdf_text};
 use sg_circuit::Circuit;
 use sg_io::{Shelf, ShelfError};
+use signoff_phases::{Annotated, Refusal, Stop, annotated_of};
 use std::alloc::{AllocError, Global};
 
 /// What is written of a design.

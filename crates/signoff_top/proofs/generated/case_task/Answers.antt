@@ -1,6 +1,6 @@
 use Rattle.std.proofs.Common.{◌∙◌, refl}
 use Rattle.std.proofs.lemmas.Result.{err_from_is_err_and}
-use Rattle.signoff_top.proofs.Composed.{gives_stop, gives_then}
+use Rattle.signoff_phases.proofs.Composed.{gives_stop, gives_then}
 use Rattle.signoff_top.proofs.CaseLaws.{entries_given, netlist_given, stimulus_given}
 use Rattle.signoff_top.proofs.generated.case_task.Goals as goal
 

@@ -3,7 +3,7 @@ use Rattle.time_checks.specs.Seen.{violation_seen}
 use Rattle.run_report.specs.Spent.{spent_seen}
 use Rattle.signoff_top.specs.Answer.{status_of_run}
 use Rattle.signoff_top.specs.Work.{case_told}
-use Rattle.signoff_top.proofs.Telling.{made_tells}
+use Rattle.signoff_phases.proofs.TellingLaws.{made_tells}
 use Rattle.signoff_top.proofs.report.tell_case.Goals as goal
 
 pub returns : goal.returns

@@ -4,8 +4,8 @@ use Rattle.run_report.specs.Report.{report_lines}
 use Rattle.run_report.specs.Reporting.{PutsMade, unmatched_seen}
 use Rattle.run_report.specs.Spent.{spent_seen}
 use Rattle.signoff_top.specs.Answer.{status_of_run}
-use Rattle.signoff_top.specs.Work.{Tells}
-use Rattle.signoff_top.proofs.Telling.{lines_lent}
+use Rattle.signoff_phases.specs.Told.{Tells}
+use Rattle.signoff_top.proofs.Lent.{lines_lent}
 use Rattle.signoff_top.proofs.report.tell_run.Goals as goal
 
 pub returns : goal.returns

@@ -4,8 +4,8 @@ use Rattle.time_checks.specs.Seen.{violation_seen}
 use Rattle.run_report.specs.Report.{stopped_lines}
 use Rattle.run_report.specs.Reporting.{PutsMade, unmatched_seen}
 use Rattle.signoff_top.specs.Answer.{status_of_run}
-use Rattle.signoff_top.specs.Work.{Tells}
-use Rattle.signoff_top.proofs.Telling.{stopped_lent}
+use Rattle.signoff_phases.specs.Told.{Tells}
+use Rattle.signoff_top.proofs.Lent.{stopped_lent}
 use Rattle.signoff_top.proofs.report.tell_stopped.Goals as goal
 
 pub returns : goal.returns

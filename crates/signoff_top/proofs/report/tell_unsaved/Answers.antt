@@ -1,5 +1,5 @@
 use Rattle.std.proofs.Common.{refl}
-use Rattle.signoff_top.proofs.Telling.{made_tells}
+use Rattle.signoff_phases.proofs.TellingLaws.{made_tells}
 use Rattle.signoff_top.proofs.report.tell_unsaved.Goals as goal
 
 pub returns : goal.returns

@@ -7,7 +7,8 @@ use Rattle.run_words.specs.WordsSeen.{command_seen}
 use Rattle.signoff_top.specs.Tasks.{IsSound, task_seen}
 use Rattle.signoff_top.specs.declared.phases.Task.{Task}
 use Rattle.signoff_top.specs.declared.stopping.Rest.{Rest}
-use Rattle.signoff_top.proofs.Composed.{failed_again, failed_at_state, gives_stop, gives_then, unfailed}
+use Rattle.signoff_phases.proofs.Composed.{failed_again, gives_stop, gives_then, unfailed}
+use Rattle.signoff_top.proofs.Failures.{failed_at_state}
 use Rattle.signoff_top.proofs.Sound.{accepted, sound, uncut}
 use Rattle.signoff_top.proofs.stopping.rest_of.Goals as goal
 

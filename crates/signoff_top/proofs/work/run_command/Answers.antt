@@ -4,7 +4,8 @@ use Rattle.run_words.specs.Words.{a_run}
 use Rattle.run_words.specs.WordsSeen.{command_seen}
 use Rattle.signoff_top.specs.declared.phases.Task.{Task}
 use Rattle.signoff_top.specs.declared.work.Done.{Done}
-use Rattle.signoff_top.proofs.Composed.{dump_among, failed_again}
+use Rattle.signoff_top.proofs.Failures.{dump_among}
+use Rattle.signoff_phases.proofs.Composed.{failed_again}
 use Rattle.signoff_top.proofs.Worked.{command_stopped, run_gives}
 use Rattle.signoff_top.proofs.work.run_command.Goals as goal
 

@@ -3,11 +3,11 @@ use Rattle.std.proofs.Common.{[], refl}
 use Rattle.run_words.specs.Words.{a_rest}
 use Rattle.run_words.specs.WordsSeen.{command_seen}
 use Rattle.signoff_top.specs.Answer.{rest_dump, rest_of}
-use Rattle.signoff_top.specs.Tasks.{IsSound}
-use Rattle.signoff_top.specs.Tasks.{rest_seen}
+use Rattle.signoff_top.specs.Tasks.{IsSound, rest_seen}
 use Rattle.signoff_top.specs.declared.stopping.Rest.{Rest}
 use Rattle.signoff_top.specs.declared.work.Done.{Done}
-use Rattle.signoff_top.proofs.Composed.{dump_among, failed_again}
+use Rattle.signoff_top.proofs.Failures.{dump_among}
+use Rattle.signoff_phases.proofs.Composed.{failed_again}
 use Rattle.signoff_top.proofs.Stopped.{rest_file, rest_gives, rest_stopped}
 use Rattle.signoff_top.proofs.Worked.{failed_at_made, made_fails, made_wants, none_yet, run_leaves}
 use Rattle.signoff_top.proofs.Sound.{cut_again}

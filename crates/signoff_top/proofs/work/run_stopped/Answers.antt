@@ -5,7 +5,8 @@ use Rattle.run_words.specs.WordsSeen.{command_seen, stop_seen}
 use Rattle.signoff_top.specs.Tasks.{task_seen}
 use Rattle.signoff_top.specs.declared.phases.Task.{Task}
 use Rattle.signoff_top.specs.declared.work.Done.{Done}
-use Rattle.signoff_top.proofs.Composed.{dump_among, failed_again, save_among}
+use Rattle.signoff_top.proofs.Failures.{dump_among, save_among}
+use Rattle.signoff_phases.proofs.Composed.{failed_again}
 use Rattle.signoff_top.proofs.Stopped.{answers_are, stop_behind, stop_gives}
 use Rattle.signoff_top.proofs.Worked.{command_stopped}
 use Rattle.signoff_top.proofs.work.run_stopped.Goals as goal

@@ -8,7 +8,7 @@ use Rattle.signoff_top.specs.Phases.{CommandOutcome}
 use Rattle.signoff_top.specs.Tasks.{IsSound}
 use Rattle.signoff_top.specs.Work.{LeavesDelays, WorkLeaves}
 use Rattle.signoff_top.specs.declared.work.Done.{Done}
-use Rattle.signoff_top.proofs.Putting.{both_same}
+use Rattle.signoff_phases.proofs.Putting.{both_same}
 use Rattle.signoff_top.proofs.Worked.{asked_is, delays_stopped, words_spared, words_stopped}
 use Rattle.signoff_top.proofs.Sound.{asked_rest, asked_writing, not_refused, one_asked, other_asked}
 use Rattle.signoff_top.proofs.work.work.Goals as goal

@@ -2,10 +2,11 @@ use Rattle.std.proofs.lemmas.Result.{err_from_is_err_and}
 use Rattle.std.proofs.Common.{[], refl}
 use Rattle.run_words.specs.Words.{a_writing}
 use Rattle.run_words.specs.WordsSeen.{writing_seen}
-use Rattle.signoff_top.specs.declared.stop.Stop.TheVariants as stop
+use Rattle.signoff_phases.specs.declared.stop.Stop.TheVariants as stop
 use Rattle.signoff_top.specs.declared.work.Done.{Done}
 use Rattle.signoff_top.specs.declared.writing.Written.{Written}
-use Rattle.signoff_top.proofs.Composed.{failed_again, out_among}
+use Rattle.signoff_phases.proofs.Composed.{failed_again}
+use Rattle.signoff_top.proofs.Failures.{out_among}
 use Rattle.signoff_top.proofs.Worked.{delays_begun, delays_stopped, failed_at_made, made_fails, made_wants, none_yet, want_untouched, writing_gives, writing_leaves, writing_stopped, written_file}
 use Rattle.signoff_top.proofs.work.write_delays.Goals as goal
 

@@ -1,0 +1,3 @@
+-- The modules of this folder.
+pub mod Events
+pub mod Ends

@@ -1,0 +1,5 @@
+-- The modules of this folder.
+pub mod FirstLaws
+pub mod PinLaws
+pub mod LineLaws
+pub mod ToggleLaws

@@ -1,0 +1,12 @@
+use Rattle.std.proofs.lemmas.Result.{on_ok_weaker}
+use Rattle.why_text.proofs.ToggleLaws.{toggled_by, toggled_by_none}
+use Rattle.why_text.proofs.toggles.push_toggled.Goals as goal
+
+pub returns-in_ok-extend_from_slice-in-Some : goal.returns-in_ok-extend_from_slice-in-Some
+returns-in_ok-extend_from_slice-in-Some c =
+    on_ok_weaker c.push_violation.result
+    (λ last. toggled_by c.args.circuit.now c.args.event c.args.violations.now c.in-Some.place _ c.args.text.now.items _ _ _ c.in-Some.ensures c.in_ok-push_event.ensures c.in_ok-extend_from_slice-in-Some.ensures.items last)
+    c.push_violation.ensures
+
+pub returns-in-None : goal.returns-in-None
+returns-in-None c = ?
