@@ -1,6 +1,7 @@
 // What is told of a violation.
 ghost use Rattle.std.specs.Prelude.{◌≡◌, ◌-◌, ◌==◌, ◌++◌, ◌<◌, ◌^◌, ◌-ℤ◌, pos, IfOk, OnOk, codes, decimal, length, map};
 ghost use Rattle.std.specs.Fmt.{signed_decimal};
+ghost use Rattle.sg_circuit.specs.Closed.{IsClosed};
 ghost use Rattle.wave_out.specs.Texts.{line};
 ghost use Rattle.time_checks.specs.Seen.{violation_seen};
 ghost use Rattle.why_text.specs.Lines.{timing_at};
@@ -19,6 +20,7 @@ use why_causes::{Event, Trace};
 
 // The nets of a check's reference and data.
 fn nets_of(circuit: &Circuit, violation: &Violation) -> (NetId, NetId)
+    ensures closed { IsClosed circuit.now }
     ensures refer { result.0 ≡ refer_net circuit.now (violation_seen violation.now) }
     ensures datum { result.1 ≡ datum_net circuit.now (violation_seen violation.now) }
 {
