@@ -33,6 +33,17 @@ fn nets_of(circuit: &Circuit, violation: &Violation) -> (NetId, NetId)
     }
 }
 
+/// The nets of a violation's reference and data.
+pub fn check_nets(circuit: &Circuit, violation: &Violation) -> (NetId, NetId)
+    requires check { violation.now.check < length circuit.now.check_timings }
+    ensures refer { result.0 ≡ refer_net circuit.now (violation_seen violation.now) }
+    ensures datum { result.1 ≡ datum_net circuit.now (violation_seen violation.now) }
+    ensures refer_within { result.0 < length circuit.now.nets }
+    ensures datum_within { result.1 < length circuit.now.nets }
+{
+    nets_of(circuit, violation)
+}
+
 // The first event of a chain, from its end backwards, that is one of a net.
 fn event_on(trace: &Trace<'_>, events: &[u32], net: NetId) -> Option<Event>
     ensures { result ≡ event_on trace.now events.now net }
@@ -216,7 +227,7 @@ pub fn violation_causes(
     requires datum { violation.now.datum_time < 2 ^ 63 }
     ensures { IfOk result (λ text. IsToldViolation circuit.now trace.now (map (λ v. violation_seen v) violations.now) (violation_seen violation.now) text.items) }
 {
-    let (refer, datum) = nets_of(circuit, violation);
+    let (refer, datum) = check_nets(circuit, violation);
     let data_told = net_causes(
         alloc,
         circuit,
