@@ -4,3 +4,4 @@ pub mod Search
 pub mod Seen
 pub mod Told
 pub mod Whole
+pub mod Streamed

@@ -7,3 +7,9 @@ pub mod Depths
 pub mod OneOutcome
 pub mod JoinedPhases
 pub mod Reached
+pub mod Passing
+pub mod Wholes
+mod Joined
+mod Scanning
+mod CellParts
+mod Filing

@@ -115,7 +115,7 @@ impl<'a> Part<'a> for Parts {
 
 /// `"(" CELLTYPE text ")"`
 #[tactic(auto, unfolding(sdf_tree::specs::Files::cell_type_parts))]
-fn cell_type<'a>(tokens: &[Token<'a>], at: usize) -> Result<(&'a [u8], usize), ReadFault>
+pub fn cell_type<'a>(tokens: &[Token<'a>], at: usize) -> Result<(&'a [u8], usize), ReadFault>
     ensures { Gives (λ x. (x.0.now, x.1)) result (files.cell_type.read (map lexeme tokens.now) at) }
 {
     let next = left(tokens, at)?;
@@ -194,7 +194,7 @@ fn optional_instance<'a>(
 
 /// `"(" INSTANCE [ "*" | instance-path ] ")"`
 #[tactic(auto, unfolding(sdf_tree::specs::Files::instance_parts))]
-fn instance<'a>(
+pub fn instance<'a>(
     tokens: &[Token<'a>],
     at: usize,
     divider: Divider,
