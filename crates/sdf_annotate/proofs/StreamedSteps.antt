@@ -7,7 +7,7 @@ use Rattle.sg_circuit.specs.Circuit.{Circuit}
 use Rattle.sg_delay.specs.declared.corners.Corner.{Corner}
 use Rattle.sg_text.specs.declared.places.Place.{Place}
 use Rattle.sdf_meaning.specs.MeantSeen.{view_meant, view_sdf}
-use Rattle.sdf_read.specs.Told.{Told, told, told_in}
+use Rattle.sdf_stream.specs.Told.{Told, told, told_in}
 use Rattle.sdf_tree.specs.Meant.{Cell, Entry, Sdf}
 use Rattle.sdf_tree.specs.declared.tree.Cell as code_cell
 use Rattle.sdf_tree.specs.declared.tree.Entry as code_entry

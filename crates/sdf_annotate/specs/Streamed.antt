@@ -3,7 +3,7 @@ use Rattle.std.specs.Prelude.{◌≡◌, ℕ, List, [], length, map, None, Ok, r
 use Rattle.annotation_model.specs.Given.{Given}
 use Rattle.annotation_places.specs.Places.{ArePlaces}
 use Rattle.sdf_meaning.specs.MeantSeen.{view_sdf}
-use Rattle.sdf_read.specs.Told.{Told}
+use Rattle.sdf_stream.specs.Told.{Told}
 use Rattle.sdf_read.specs.Reads.{Reads}
 use Rattle.sdf_tree.specs.Meant as meant
 use Rattle.sdf_tree.specs.declared.tree.Cell as code_cell

@@ -8,7 +8,3 @@ pub mod Depth
 pub mod Outcomes
 pub mod Reads
 pub mod Phases
-pub mod Told
-pub mod Windows
-pub mod Scans
-pub mod Streams
