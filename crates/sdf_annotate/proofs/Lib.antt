@@ -11,4 +11,4 @@ pub mod RowLaws
 pub mod ScopeLaws
 pub mod TableSteps
 pub mod WholeSteps
-mod StreamedSteps
+pub mod StreamedSteps

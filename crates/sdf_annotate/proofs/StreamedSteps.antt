@@ -1,26 +1,30 @@
 -- Entries that are told of a file are its entries, whether or not its cells are there.
-use Rattle.std.specs.Prelude.{◌≡◌, refl, List, [], ◌∷◌, ◌++◌, map, Option, Some, if◌then◌else◌}
+use Rattle.std.specs.Prelude.{◌≡◌, refl, ℕ, ℤ, List, [], ◌∷◌, ◌++◌, map, length, None, Option, Some, if◌then◌else◌, replicate}
 use Rattle.std.specs.List.{flat_map}
 use Rattle.std.proofs.Common.{ap, sym, ◌∙◌, subst}
 use Rattle.std.proofs.lemmas.List.{map-append}
 use Rattle.sg_circuit.specs.Circuit.{Circuit}
+use Rattle.sg_circuit.specs.Closed.{IsClosed}
+use Rattle.sg_circuit.specs.declared.checks.CheckTiming.{CheckTiming}
 use Rattle.sg_delay.specs.declared.corners.Corner.{Corner}
 use Rattle.sg_text.specs.declared.places.Place.{Place}
-use Rattle.sdf_meaning.specs.MeantSeen.{view_meant, view_sdf}
+use Rattle.sdf_meaning.specs.MeantSeen.{view_meant}
+use Rattle.sdf_stream.specs.Streams.{IsTellable}
 use Rattle.sdf_stream.specs.Told.{Told, told, told_in}
-use Rattle.sdf_tree.specs.Meant.{Cell, Entry, Sdf}
+use Rattle.sdf_stream.proofs.Filing.{reads_parts}
+use Rattle.sdf_tree.specs.Meant.{Cell, Entry, Sdf, sdf_of}
+use Rattle.sdf_tree.specs.declared.words.Divider.{Divider}
 use Rattle.sdf_tree.specs.declared.tree.Cell as code_cell
 use Rattle.sdf_tree.specs.declared.tree.Entry as code_entry
 use Rattle.annotation_finder.specs.Finding.{given_seen}
 use Rattle.annotation_model.specs.Annotated.{first_too_large, is_too_large_after}
-use Rattle.annotation_model.specs.Given.{Given, given, given_in}
-use Rattle.sdf_annotate.specs.Progress.{AreSized, CameTo, HasAll}
-use Rattle.sdf_annotate.specs.Seen.{circuit_of}
-use Rattle.sdf_annotate.specs.Streamed.{HasApplied, IsAnnotator, IsAnnotatorIn, given_of_told}
-use Rattle.sdf_annotate.specs.declared.streamed.Annotator as code_annotator
-use Rattle.sdf_annotate.specs.declared.tasks.Task as code_task
+use Rattle.annotation_model.specs.Given.{Given, given_in}
+use Rattle.annotation_model.specs.Spots.{spots}
+use Rattle.sdf_annotate.specs.Progress.{CameTo, HasAll}
+use Rattle.sdf_annotate.specs.Streamed.{AreAfterText, given_of_told}
+use Rattle.sdf_annotate.specs.Told.{told_seen}
 use Rattle.sdf_annotate.specs.declared.values.NewValues.{NewValues}
-use Rattle.sdf_annotate.proofs.CellSteps.{came-more, came-none}
+use Rattle.sdf_annotate.proofs.WholeSteps.{given-after}
 
 -- ---- what is told
 
@@ -64,20 +68,25 @@ module _ (c : Circuit) (sdf : Sdf) (corner : Corner) where
     sized = came.sized;
   }
 
--- ---- laws of an annotator
+-- ---- all entries of a text
 
-pub applied-none : (a : code_annotator.Annotator) → IsAnnotator a → HasApplied a a []
-applied-none a is = record { task = refl; came = came-none (circuit_of a.task) (view_sdf a.task.sdf.now) a.task.corner a.values is.sized }
+bare : ℤ → Divider → Sdf
+bare unit divider = record { unit = unit; divider = divider; cells = [] }
 
-pub applied-more : (a b d : code_annotator.Annotator) (xs ys : List Told) → HasApplied a b xs → HasApplied b d ys → HasApplied a d (xs ++ ys)
-applied-more a b d xs ys p q = record {
-  task = q.task ∙ p.task;
-  came = subst (λ (gs : List Given). CameTo c sdf corner gs a.values d.values) (sym (map-append given_of_told xs ys)) (came-more c sdf corner (map given_of_told xs) (map given_of_told ys) a.values b.values d.values p.came behind);
-}
-  where
-    c = circuit_of a.task
-    sdf = view_sdf a.task.sdf.now
-    corner = a.task.corner
+module _ (c : Circuit) (text : List ℕ) (corner : Corner) (closed : IsClosed c) (old new : NewValues) (none : old.timings.items ≡ replicate (length (spots c)) None) (limits : old.limits.items ≡ map (λ (t : CheckTiming). t.limits) c.check_timings) (empty : told_seen old.unmatched.items ≡ []) where
+  pub told-after : (unit : ℤ) (divider : Divider) (Came : List Told → Type 0) → IsTellable text unit divider Came → ((ts : List Told) → Came ts → CameTo c (record { unit = unit; divider = divider; cells = [] }) corner (map given_of_told ts) old new)
+      → AreAfterText c text corner new
+  told-after unit divider Came t on = record {
+    sdf = sdf;
+    read = reads_parts text t.parts t.read t.fine;
+    after = given-after c sdf corner closed old none limits gs (cells-told sdf.cells) new empty (came-whole c sdf corner gs old new came);
+  }
+    where
+      sdf = sdf_of t.parts
+      gs = map given_of_told (flat_map told_in sdf.cells)
 
-    behind : CameTo c sdf corner (map given_of_told ys) b.values d.values
-    behind = subst (λ (t : code_task.Task). CameTo (circuit_of t) (view_sdf t.sdf.now) t.corner (map given_of_told ys) b.values d.values) p.task q.came
+      heads : bare unit divider ≡ heads_of sdf
+      heads = ap (λ (u : ℤ). bare u divider) (sym t.unit_is) ∙ ap (λ (d : Divider). bare sdf.unit d) (sym t.divider_is)
+
+      came : CameTo c (heads_of sdf) corner gs old new
+      came = subst (λ (h : Sdf). CameTo c h corner gs old new) heads (on (flat_map told_in sdf.cells) t.came)

@@ -5,3 +5,4 @@ pub mod Seen
 pub mod Told
 pub mod Whole
 pub mod Streamed
+pub mod AppliedLaws

@@ -33,7 +33,7 @@ struct Annotator<'t, 'p, 's> {
 
 impl Visit for Annotator<'_, '_, '_> {
     ghost use Rattle.sdf_annotate.specs.Streamed.{HasApplied, IsAnnotator, IsAnnotatorIn};
-    ghost use Rattle.sdf_annotate.proofs.StreamedSteps.{applied-more, applied-none};
+    ghost use Rattle.sdf_annotate.specs.AppliedLaws.{applied-more, applied-none};
 
     ghost ready = { λ a. IsAnnotator a };
 

@@ -4,6 +4,7 @@ use Rattle.std.specs.Prelude.{Ok, nat_lt}
 use Rattle.std.specs.List.{flat_map}
 use Rattle.std.proofs.lemmas.Bool.{le-ltb}
 use Rattle.std.proofs.lemmas.List.{append-nil, append_assoc}
+use Rattle.grammar.specs.Rule.{◌▸◌, ◌◂◌}
 use Rattle.grammar.specs.States.{SpellsBy, state_after}
 use Rattle.sdf_lex.specs.Lexes.{Lexes, LexesFrom, Outcome}
 use Rattle.sdf_lex.specs.Tokens.{Lexeme}
@@ -12,7 +13,7 @@ use Rattle.sdf_tree.specs.declared.keywords.Keyword.TheVariants as keyword
 use Rattle.sdf_tree.specs.declared.words.Divider.{Divider}
 use Rattle.sdf_tree.specs.declared.words.Divider.TheVariants.{Point}
 use Rattle.sdf_tree.specs.Faults.{Crossing, file_crossings, file_numbers}
-use Rattle.sdf_tree.specs.Files.{FileState, divider_after, file, file_body, file_part, file_parts_parts, first_state, state_after_part}
+use Rattle.sdf_tree.specs.Files.{FileState, divider_after, file, file_body, file_part, file_parts_parts, first_state, head, state_after_part}
 use Rattle.sdf_tree.specs.Kinds.{is_left, is_right, is_word, kind_of}
 use Rattle.sdf_tree.specs.Meant.{Cell, Sdf, cell_of, cells_in, dividers_in, last_or, sdf_of, units_in}
 use Rattle.sdf_tree.specs.Rules.{mark}
@@ -29,10 +30,12 @@ use Rattle.sdf_read.specs.Outcomes.{is_spelled, meaning_of}
 use Rattle.sdf_read.specs.Phases.{AreRead}
 use Rattle.sdf_read.specs.Reads.{Reads, has_tokens}
 use Rattle.sdf_stream.specs.Scans.{AreFine, IsCell}
-use Rattle.sdf_stream.specs.Streams.{AreParts, EndsText, IsAmid, IsBegun, IsBehind, IsHead, IsTellable, with_head}
+use Rattle.sdf_stream.specs.Streams.{AreParts, EndsText, IsAmid, IsBegun, IsBehind, IsHead, IsOpened, IsTellable, with_head}
 use Rattle.sdf_stream.specs.Told.{Told, told_in}
-use Rattle.sdf_stream.specs.Windows.{Begins, HasMore, Opened, Passed, seen}
+use Rattle.sdf_stream.specs.Windows.{Begins, HasMore, IsOne, Opened, Passed, seen}
+use Rattle.sdf_stream.specs.declared.streams.Stream.{Stream}
 use Rattle.sdf_stream.specs.declared.window.Window.{Window}
+use Rattle.sdf_stream.proofs.Joined.{head_part_says}
 use Rattle.sdf_stream.proofs.Passing.{depth_more, from_none, none_deep, passed_on, shallow_more}
 use Rattle.sdf_stream.proofs.Scanning.{fine_more, flat_last}
 
@@ -46,7 +49,7 @@ behind_on text before ts a b p q = record {
   shallow = shallow_more 0 before ts p.shallow (subst (λ (d : ℕ). AreShallow d ts) p.depth q.shallow);
 }
 
-pub begun : (text : List ℕ) (a b : Window) → a.at ≡ 0 → a.rest.now ≡ text → a.depth ≡ 0 → length text ≤ 2 ^ 28 → Opened a b true → Begins keyword.DelayFile (seen b) → IsBegun text b
+pub begun : (text : List ℕ) (a b : Window) → a.at ≡ 0 → a.rest.now ≡ text → a.depth ≡ 0 → length text ≤ 2 ^ 28 → {more : Bool} → Opened a b more → Begins keyword.DelayFile (seen b) → IsBegun text b
 begun text a b at rest depth few o w = record {
   left = w.0;
   word = w.1;
@@ -58,6 +61,10 @@ begun text a b at rest depth few o w = record {
   where
     start : IsBehind text [] a
     start = record { few = few; goes_on = λ p h. subst (λ (n : ℕ). LexesFrom [] n text p) at (subst (λ (xs : List ℕ). LexesFrom [] a.at xs p) rest h); depth = depth; shallow = tt }
+
+-- a head that was read whole
+pub head_is : (a b : Window) (h : Head) → IsOne (mark is_left ▸ (head ◂ mark is_right)) a b h → AreFine (file_numbers (a_head h)) (file_crossings (a_head h)) → IsHead a b h
+head_is a b h one fine = record { more = one.more; passed = one.passed; says = λ divider. head_part_says divider (seen a ++ one.more) h one.says; fine = fine }
 
 -- ---- what parts say
 
@@ -154,6 +161,10 @@ module _ (text : List ℕ) where
   pub no_cells_more : (ps : List FilePart) (h : Head) → (sdf_of ps).cells ≡ [] → (sdf_of (ps ++ a_head h ∷ [])).cells ≡ []
   no_cells_more ps h e = cells_more ps (a_head h) ∙ (append-nil (sdf_of ps).cells ∙ e)
 
+  -- no cell yet
+  pub opened_amid : (s : Stream) (Came : List Told → Type 0) → Came [] → IsOpened text s → IsAmid text s.unit.power s.divider Came s.window s.more
+  opened_amid s Came none o = record { parts = o.parts; heads = true; read = o.read; closes = o.closes; came = subst (λ (cells : List Cell). Came (flat_map told_in cells)) (sym o.no_cells) none }
+
   -- a cell more, and what was told
   pub cell_more : (Came One All : List Told → Type 0) (a b d : Window) (more : Bool) (unit : ℤ) (divider : Divider) → ((xs ys : List Told) → Came xs → One ys → All (xs ++ ys))
       → (m : Bool) → IsAmid text unit divider Came a m → IsCell divider One a b → Opened b d more → IsAmid text unit divider All d more
@@ -197,11 +208,11 @@ module _ (text : List ℕ) where
       let small : nat_lt (2 ^ 28) (length text) ≡ false = le-ltb (2 ^ 28) (length text) p.few in
       rw small (p.goes_on (Ok before) (ends before))
 
-  pub told_all : (Came : List Told → Type 0) (a : Window) (unit : ℤ) (divider : Divider) → IsAmid text unit divider Came a false → EndsText a → IsTellable text unit divider Came
-  told_all Came a unit divider r ends = record {
+  pub told_all : (Came : List Told → Type 0) (a : Window) (unit : ℤ) (divider : Divider) {more : Bool} → IsAmid text unit divider Came a more → more ≡ false → EndsText a → IsTellable text unit divider Came
+  told_all Came a unit divider r done ends = record {
     parts = r.parts;
     read = (p.left ∷ p.word ∷ (p.tokens ++ seen a), lexed (p.left ∷ p.word ∷ (p.tokens ++ seen a)) a p.behind ends,
-        (none_deep (p.left ∷ p.word ∷ (p.tokens ++ seen a)) p.behind.shallow, file_says p.left p.word p.tokens (seen a) r.parts p.opens p.begins p.spelled (r.closes refl)));
+        (none_deep (p.left ∷ p.word ∷ (p.tokens ++ seen a)) p.behind.shallow, file_says p.left p.word p.tokens (seen a) r.parts p.opens p.begins p.spelled (r.closes done)));
     fine = rw (p.fine.numbers, p.fine.crossings) refl;
     unit_is = p.unit_is;
     divider_is = p.divider_is;

@@ -1,5 +1,5 @@
 -- What a parenthesis, a word, parts and a parenthesis spell, one behind the other.
-use Rattle.std.proofs.Common.{◌≡◌, ℕ, Bool, true, List, [], ◌∷◌, ◌++◌, length, refl, inl, inr}
+use Rattle.std.proofs.Common.{◌≡◌, ℕ, Bool, true, List, [], ◌∷◌, ◌++◌, length, refl, ap, inl, inr}
 use Rattle.grammar.specs.Rule.{◌∙∙◌, ◌▸◌, ◌◂◌, mapped, only_if}
 use Rattle.sdf_lex.specs.Tokens.{Lexeme}
 use Rattle.sdf_tree.specs.declared.keywords.Keyword.{Keyword}
@@ -10,10 +10,11 @@ use Rattle.sdf_tree.specs.Entries.{GroupBody, absolute_body, entry, group, group
 use Rattle.sdf_tree.specs.Files.{PartBody, cell, cell_parts, cell_type, checks_body, delays_body, file_part, file_part_parts, head, instance, part, part_body, part_body_parts, part_of, part_parts}
 use Rattle.sdf_tree.specs.Kinds.{is_left, is_right, is_word, kind_of}
 use Rattle.sdf_tree.specs.Rules.{Grammar, either, many, mark}
-use Rattle.sdf_tree.specs.Written.{Cell, Check, Entry, Group, Instance, Part, a_cell, a_head, absolute, checks, delays, increment}
+use Rattle.sdf_tree.specs.Written.{Cell, Check, Entry, Group, Head, Instance, Part, a_cell, a_head, absolute, checks, delays, increment}
 use Rattle.sdf_tree.proofs.Building as exact
 use Rattle.sdf_tree.proofs.EntriesExact.{group_body-exact}
-use Rattle.sdf_tree.proofs.FilesExact.{cell-exact, cell_type-exact, instance-exact, part_body-exact}
+use Rattle.sdf_tree.proofs.FilesExact.{cell-exact, cell_type-exact, head-exact, instance-exact, part_body-exact}
+use Rattle.sdf_tree.proofs.AllKinds.{apart}
 use Rattle.sdf_windows.specs.Movable.{Moves, Says}
 use Rattle.sdf_windows.proofs.Building as moves
 use Rattle.sdf_windows.proofs.Checks.{check_moves}
@@ -84,6 +85,14 @@ module _ (heads : Bool) (divider : Divider) (t : Lexeme) (ts rs : List Lexeme) (
       let there = in_front kind_of (cell-exact true divider) ts rs c s in
       let inside : Says (either (mapped a_head (only_if heads head)) (mapped a_cell (cell true divider)) ◂ mark is_right) (ts ++ rs) (a_cell c) = ((a_cell c, tt), refl, (length ts, inr (c, refl, there), at_end (moves.the_mark is_right) ts rs tt right)) in
       joined_behind kind_of (exact.the_mark is_left) (moves.before (moves.or (moves.made a_head (moves.where_so heads head_moves)) (moves.made a_cell (cell_moves true divider))) (moves.the_mark is_right)) (t ∷ []) (ts ++ rs) tt (a_cell c) (mark_says kind_of is_left t left) inside
+
+pub closed_head-exact : exact.IsExact (mark is_left ▸ (head ◂ mark is_right))
+closed_head-exact = exact.behind (exact.the_mark is_left) (exact.before head-exact (exact.the_mark is_right) (apart _ _ (λ _ _. refl))) (exact.closed _)
+
+-- a head in parentheses is a part of a file where heads may come
+pub head_part_says : (divider : Divider) (ts : List Lexeme) (h : Head) → Says (mark is_left ▸ (head ◂ mark is_right)) ts h → Says (file_part true (record { heads = true; divider = divider })) ts (a_head h)
+unfolding file_part_parts
+head_part_says divider ts h (p, e, (m, opened, (q, f, (n, inside, behind)))) = ((p.0, a_head p.1), ap a_head e, (m, opened, ((a_head q.0, q.1), ap a_head f, (n, inl (q.0, refl, inside), behind))))
 
 -- a cell from its parts
 pub cell_says : (divider : Divider) (u : Lexeme) (ts us vs : List Lexeme) (cell_type_is : List ℕ) (instance_is : Instance) (ps : List Part) → is_word keyword.Cell (kind_of u) ≡ true

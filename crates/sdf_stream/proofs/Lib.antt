@@ -1,7 +1,7 @@
 -- The modules of this folder.
 pub mod Passing
 pub mod Wholes
-mod Joined
-mod Scanning
-mod CellParts
-mod Filing
+pub mod Joined
+pub mod Scanning
+pub mod CellParts
+pub mod Filing

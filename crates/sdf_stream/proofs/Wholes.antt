@@ -46,7 +46,7 @@ module _ {X A : Type 0} (r : Grammar A) (er : IsExact r) (view : X → A) (resul
       size = e ∙ (sym (length-map b.tokens.items lexeme) ∙ ap (λ (ts : List Token). length (map lexeme ts)) (sym l))
 
   -- the next tokens
-  pub next_is : (a b d : Window) (lent : List Token) (x : X) (n : ℕ) → Opened a b true → Grown b d → lent ≡ d.tokens.items → Gives (λ x. (view x.0, x.1)) result (r.read (map lexeme lent) 0) → result ≡ Ok (x, n) → n ≡ length d.tokens.items → IsNext r a d (view x)
+  pub next_is : (a b d : Window) (lent : List Token) (x : X) (n : ℕ) {more : Bool} → Opened a b more → Grown b d → lent ≡ d.tokens.items → Gives (λ x. (view x.0, x.1)) result (r.read (map lexeme lent) 0) → result ≡ Ok (x, n) → n ≡ length d.tokens.items → IsNext r a d (view x)
   next_is a b d lent x n o g l gives is e =
       let one = whole_is b d lent x n g l gives is e in
       record { tokens = seen b ++ one.more; passed = passed_on a b d (seen b) one.more o.passed one.passed; says = one.says }
