@@ -8,7 +8,7 @@ use Rattle.sg_circuit.specs.Closed.{IsClosed}
 use Rattle.sg_circuit.specs.declared.checks.CheckTiming.{CheckTiming}
 use Rattle.sg_delay.specs.declared.corners.Corner.{Corner}
 use Rattle.sg_text.specs.declared.places.Place.{Place}
-use Rattle.sdf_meaning.specs.MeantSeen.{view_meant}
+use Rattle.sdf_meaning.specs.MeantSeen.{view_meant, view_meant_cell, view_sdf}
 use Rattle.sdf_stream.specs.Streams.{IsTellable}
 use Rattle.sdf_stream.specs.Told.{Told, told, told_in}
 use Rattle.sdf_stream.proofs.Filing.{reads_parts}
@@ -21,8 +21,11 @@ use Rattle.annotation_model.specs.Annotated.{first_too_large, is_too_large_after
 use Rattle.annotation_model.specs.Given.{Given, given_in}
 use Rattle.annotation_model.specs.Spots.{spots}
 use Rattle.sdf_annotate.specs.Progress.{CameTo, HasAll}
-use Rattle.sdf_annotate.specs.Streamed.{AreAfterText, given_of_told}
+use Rattle.sdf_annotate.specs.Seen.{circuit_of}
+use Rattle.sdf_annotate.specs.Streamed.{AreAfterText, HasApplied, IsFirst, given_of_told}
 use Rattle.sdf_annotate.specs.Told.{told_seen}
+use Rattle.sdf_annotate.specs.declared.streamed.Annotator as code_annotator
+use Rattle.sdf_annotate.specs.declared.tasks.Task as code_task
 use Rattle.sdf_annotate.specs.declared.values.NewValues.{NewValues}
 use Rattle.sdf_annotate.proofs.WholeSteps.{given-after}
 
@@ -82,7 +85,10 @@ module _ (c : Circuit) (text : List ℕ) (corner : Corner) (closed : IsClosed c)
     after = given-after c sdf corner closed old none limits gs (cells-told sdf.cells) new empty (came-whole c sdf corner gs old new came);
   }
     where
+      sdf : Sdf
       sdf = sdf_of t.parts
+
+      gs : List Given
       gs = map given_of_told (flat_map told_in sdf.cells)
 
       heads : bare unit divider ≡ heads_of sdf
@@ -90,3 +96,13 @@ module _ (c : Circuit) (text : List ℕ) (corner : Corner) (closed : IsClosed c)
 
       came : CameTo c (heads_of sdf) corner gs old new
       came = subst (λ (h : Sdf). CameTo c h corner gs old new) heads (on (flat_map told_in sdf.cells) t.came)
+
+pub text-after : (task : code_task.Task) (a b : code_annotator.Annotator) (text : List ℕ) → IsClosed (circuit_of task) → task.sdf.now.cells.items ≡ [] → IsFirst task a → IsTellable text task.sdf.now.unit.power task.sdf.now.divider (HasApplied a b)
+    → AreAfterText (circuit_of task) text task.corner b.values
+text-after task a b text closed empty first t =
+    told-after (circuit_of task) text task.corner closed a.values b.values first.timings first.limits first.none task.sdf.now.unit.power task.sdf.now.divider (HasApplied a b) t came
+  where
+    came : (ts : List Told) → HasApplied a b ts → CameTo (circuit_of task) (bare task.sdf.now.unit.power task.sdf.now.divider) task.corner (map given_of_told ts) a.values b.values
+    came ts h =
+        subst (λ (cells : List Cell). CameTo (circuit_of task) (record { unit = task.sdf.now.unit.power; divider = task.sdf.now.divider; cells = cells }) task.corner (map given_of_told ts) a.values b.values) (ap (map view_meant_cell) empty)
+        (subst (λ (t : code_task.Task). CameTo (circuit_of t) (view_sdf t.sdf.now) t.corner (map given_of_told ts) a.values b.values) first.is h.came)

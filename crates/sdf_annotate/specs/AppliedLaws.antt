@@ -52,8 +52,13 @@ applied-more a b d xs ys p q = record {
   came = subst (λ (gs : List Given). CameTo c sdf corner gs a.values d.values) (sym (map-append given_of_told xs ys)) (came-more c sdf corner (map given_of_told xs) (map given_of_told ys) a.values b.values d.values p.came behind);
 }
   where
+    c : Circuit
     c = circuit_of a.task
+
+    sdf : Sdf
     sdf = view_sdf a.task.sdf.now
+
+    corner : Corner
     corner = a.task.corner
 
     behind : CameTo c sdf corner (map given_of_told ys) b.values d.values

@@ -36,7 +36,7 @@ pub enum PartBody<'a> {
 }
 
 /// `DELAY { group } | TIMINGCHECK { check } | (TIMINGENV | LABEL) balanced`
-#[tactic(auto, unfolding(sdf_tree::specs::Files::part_body_parts))]
+#[tactic(auto, using(crate::proofs::PartsExact::group_part, crate::proofs::PartsExact::check_part), unfolding(sdf_tree::specs::Files::part_body_parts))]
 fn part_body<'a>(
     alloc: Global,
     tokens: &[Token<'a>],
@@ -212,7 +212,7 @@ pub fn instance<'a>(
 }
 
 /// `CELL cell-type instance { part }`
-#[tactic(auto, unfolding(sdf_tree::specs::Files::cell_parts))]
+#[tactic(auto, using(crate::proofs::PartsExact::cell_part), unfolding(sdf_tree::specs::Files::cell_parts))]
 pub fn cell<'a>(
     alloc: Global,
     tokens: &[Token<'a>],

@@ -35,6 +35,7 @@ fn whole<'a>(
 }
 
 /// How many tokens begin a file in which lists of delays have any length.
+#[tactic(auto, using(crate::proofs::Reached::file_read, crate::proofs::Reached::file_failed))]
 fn reach(alloc: Global, tokens: &[Token<'_>]) -> Result<usize, NoMemory>
     ensures { IfOk result (λ n. IsReach (files.file false).language (map lexeme tokens.now) n) }
 {

@@ -185,11 +185,10 @@ module _ (text : List ℕ) where
       → SpellsBy (λ s. (file_part true s).language) state_after_part ts first_state 0 ps (length ts) → Says (mark is_right) rs tt → Says (file true) (t ∷ u ∷ (ts ++ rs)) ps
   unfolding file_body file_parts_parts
   file_says t u ts rs ps left word s right =
+      let parts_move = moves.by_state is_left (file_part true) state_after_part (λ s. true) (file_part_moves true) first_state in
       let inside = joined_before kind_of (file_parts-exact true) (moves.the_mark is_right) ts rs ps tt (s, refl) right in
       let behind = joined_behind kind_of (exact.the_word keyword.DelayFile) (moves.before parts_move (moves.the_mark is_right)) (u ∷ []) (ts ++ rs) tt ps (mark_says kind_of (is_word keyword.DelayFile) u word) inside in
       joined_behind kind_of (exact.the_mark is_left) (moves.behind (moves.the_word keyword.DelayFile) (moves.before parts_move (moves.the_mark is_right))) (t ∷ []) (u ∷ (ts ++ rs)) tt ps (mark_says kind_of is_left t left) behind
-    where
-      parts_move = moves.by_state is_left (file_part true) state_after_part (λ s. true) (file_part_moves true) first_state
 
   pub ends_text : (a c d : Window) → Passed a c [] → seen c ≡ [] → HasMore c d false → EndsText a
   ends_text a c d p none h = λ before.
@@ -219,8 +218,9 @@ module _ (text : List ℕ) where
     came = r.came;
   }
     where
+      p : AreParts text (seen a) a r.heads unit divider r.parts
       p = r.read
 
 -- what such parts mean is what the file is
 pub reads_parts : (text : List ℕ) (ps : List FilePart) → AreRead text ps → meaning_of ps ≡ Ok (sdf_of ps) → Reads text (Ok (sdf_of ps))
-reads_parts text ps (ts, (l, s)) m = has_tokens ts l (is_spelled s.0 ps s.1 (sym m))
+reads_parts text ps (ts, l, s) m = has_tokens ts l (is_spelled s.0 ps s.1 (sym m))

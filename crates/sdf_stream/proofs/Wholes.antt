@@ -23,6 +23,10 @@ two_begin w (t ∷ []) n l r = absurd cc
 two_begin w (t ∷ u ∷ []) n l r = (t, u, refl, l, r)
 two_begin w (t ∷ u ∷ v ∷ vs) n l r = absurd (omega (arith, n))
 
+-- the tokens that are lent
+pub begins_of : (w : Keyword) (ts us : List Token) → ts ≡ us → Begins w (map lexeme ts) → Begins w (map lexeme us)
+begins_of w ts us e b = subst (λ (xs : List Token). Begins w (map lexeme xs)) e b
+
 all_says : {A : Type 0} (r : Grammar A) → IsExact r → (ts : List Lexeme) (x : A) (n : ℕ) → r.read ts 0 ≡ Ok (x, n) → n ≡ length ts → Says r ts x
 all_says r er ts x n read e = subst (λ (m : ℕ). r.language.Spells ts 0 x m) e (er.found ts 0 x n read).0
 

@@ -101,6 +101,7 @@ fn tell_part<'a, V: Visit>(
 }
 
 // The entries of `ABSOLUTE` or `INCREMENT`, and the parenthesis behind them.
+#[tactic(auto, using(sdf_read::proofs::PartsExact::entry_part))]
 fn scan_entries<'a, V: Visit>(
     alloc: Global,
     window: &mut Window<'a>,
@@ -121,6 +122,7 @@ fn scan_entries<'a, V: Visit>(
 }
 
 // What the tokens at hand begin in `DELAY`.
+#[tactic(auto, using(sdf_read::proofs::PartsExact::group_part))]
 fn scan_group<'a, V: Visit>(
     alloc: Global,
     window: &mut Window<'a>,
@@ -161,6 +163,7 @@ fn scan_groups<'a, V: Visit>(
 }
 
 // What stands in `TIMINGCHECK`, and the parenthesis behind it.
+#[tactic(auto, using(sdf_read::proofs::PartsExact::check_part))]
 fn scan_checks<'a, V: Visit>(
     alloc: Global,
     window: &mut Window<'a>,
@@ -180,6 +183,7 @@ fn scan_checks<'a, V: Visit>(
 }
 
 // The part of a cell that the tokens at hand begin.
+#[tactic(auto, using(sdf_read::proofs::PartsExact::cell_part))]
 fn scan_part<'a, V: Visit>(
     alloc: Global,
     window: &mut Window<'a>,

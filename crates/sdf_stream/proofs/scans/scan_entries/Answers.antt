@@ -34,6 +34,3 @@ pub returns-clause-scanned : goal.returns-clause-scanned
 returns-clause-scanned g c =
     let p = g.V.Visit in
     all_scanned (entry true c.args.divider) (entry_contents c.args.increment) (λ es. p.came c.args.visitor.now c.more.visitor (told c.args.cell.now es)) c.args.window.now c.more.window c.opens.new.window c.more.invariant.scanned c.in_ok-opens.ensures c.if-branch.false
-
-pub whole_part-requires : goal.whole_part-requires
-whole_part-requires g c = λ _ form. entry-exact form.limited form.divider

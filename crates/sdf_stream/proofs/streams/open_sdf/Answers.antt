@@ -1,5 +1,5 @@
 -- One head more, and the end.
-use Rattle.std.proofs.Common.{◌×◌, ◌++◌, ◌∷◌, [], ℤ, refl, subst, sym, true}
+use Rattle.std.proofs.Common.{◌++◌, ◌∷◌, [], ℤ, refl, subst, sym, true}
 use Rattle.sdf_tree.specs.Seen.{view_head}
 use Rattle.sdf_tree.specs.Written.{a_head}
 use Rattle.sdf_tree.specs.declared.words.Divider.{Divider}
@@ -19,7 +19,7 @@ more-preserved c =
     let text = c.args.text.now in
     let a = c.more.window in
     let b = c.scan_head.new.window in
-    let d = c.opens-2.new.window in
+    let d = c.opens-in-more.new.window in
     let h = view_head c.in_ok-head.head in
     let i = c.more.invariant in
     let ps = i.read.0 in
