@@ -70,7 +70,7 @@ impl Visit for Annotator<'_, '_, '_> {
 }
 
 // An annotator that was told of nothing.
-fn annotator<'t, 'p, 's>(
+fn new_annotator<'t, 'p, 's>(
     alloc: Global,
     task: Task<'t, 'p, 's>,
 ) -> Result<Annotator<'t, 'p, 's>, NoMemory>
@@ -120,7 +120,7 @@ fn values_after(
         sdf: &sdf,
         corner,
     };
-    let Ok(mut annotator) = annotator(alloc, task) else {
+    let Ok(mut annotator) = new_annotator(alloc, task) else {
         return None;
     };
     stream.tell(alloc, &mut annotator)?;

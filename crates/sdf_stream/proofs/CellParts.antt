@@ -1,5 +1,5 @@
 -- Groups, parts and cells whose contents were read and told.
-use Rattle.std.proofs.Common.{◌≡◌, ◌∙◌, Bool, true, false, List, [], ◌∷◌, ◌++◌, map, refl, sym, ap, subst}
+use Rattle.std.proofs.Common.{ℕ, ◌≡◌, ◌∙◌, Bool, true, false, List, [], ◌∷◌, ◌++◌, map, refl, sym, ap, subst}
 use Rattle.std.specs.List.{flat_map}
 use Rattle.std.proofs.lemmas.List.{append_assoc, map-append}
 use Rattle.sdf_lex.specs.Tokens.{Lexeme}
@@ -12,10 +12,10 @@ use Rattle.sdf_tree.specs.Faults.{Crossing}
 use Rattle.sdf_tree.specs.Files.{cell_type, file_part, instance, part}
 use Rattle.sdf_tree.specs.Meant as meant
 use Rattle.sdf_tree.specs.Seen.{view_instance}
-use Rattle.sdf_tree.specs.Written.{Cell, Check, a_cell, absolute, checks, delays, increment}
+use Rattle.sdf_tree.specs.Written.{Cell, Check, Instance, a_cell, absolute, checks, delays, increment}
 use Rattle.sdf_windows.specs.Movable.{Says}
 use Rattle.sdf_stream.specs.Scans.{AreClosed, AreFine, IsCell, IsScanned, check_contents, entry_contents, group_contents, part_contents}
-use Rattle.sdf_stream.specs.Told.{Told, told}
+use Rattle.sdf_stream.specs.Told.{Told, told, told_of}
 use Rattle.sdf_stream.specs.Windows.{Begins, IsNext, Passed, seen}
 use Rattle.sdf_stream.specs.declared.window.Window.{Window}
 use Rattle.sdf_stream.proofs.Joined.{absolute_says, cell_part_says, cell_says, checks_says, delays_says, increment_says}
@@ -69,22 +69,22 @@ module _ (divider : Divider) (Came : List meant.Entry → Type 0) (a b : Window)
   }
 
 -- a cell from its word on
-pub cell_scanned : (divider : Divider) (Came One : List Told → Type 0) (a b c d : Window) (cell : code_cell.Cell) → ((ts : List Told) → One ts → Came ts) → Begins keyword.Cell (seen a)
-    → IsNext cell_type a b cell.cell_type.now → IsNext (instance divider) b c (view_instance cell.instance) → AreClosed (part true divider) part_contents (λ es. One (told cell es)) c d → IsCell divider Came a d
-cell_scanned divider Came One a b c d cell on (t, u, e, left, word) p q s = record {
+pub cell_scanned : (divider : Divider) (Came One : List Told → Type 0) (a b c d : Window) (type_is : List ℕ) (instance_is : Instance) → ((ts : List Told) → One ts → Came ts) → Begins keyword.Cell (seen a)
+    → IsNext cell_type a b type_is → IsNext (instance divider) b c instance_is → AreClosed (part true divider) part_contents (λ es. One (told_of type_is instance_is es)) c d → IsCell divider Came a d
+cell_scanned divider Came One a b c d type_is instance_is on (t, u, e, left, word) p q s = record {
   cell = the_cell;
   more = p.tokens ++ (q.tokens ++ (s.tokens ++ s.ending));
   passed = passed_on a b d p.tokens (q.tokens ++ (s.tokens ++ s.ending)) p.passed (passed_on b c d q.tokens (s.tokens ++ s.ending) q.passed s.passed);
   says = λ heads. subst (λ (xs : List Lexeme). Says (file_part true (record { heads = heads; divider = divider })) (xs ++ (p.tokens ++ (q.tokens ++ (s.tokens ++ s.ending)))) (a_cell the_cell)) (sym e)
       (subst (λ (xs : List Lexeme). Says (file_part true (record { heads = heads; divider = divider })) (t ∷ u ∷ xs) (a_cell the_cell)) regrouped
       (cell_part_says heads divider t (u ∷ (p.tokens ++ (q.tokens ++ s.tokens))) s.ending left s.closes the_cell
-      (cell_says divider u p.tokens q.tokens s.tokens cell.cell_type.now (view_instance cell.instance) s.values word p.says q.says s.says)));
+      (cell_says divider u p.tokens q.tokens s.tokens type_is instance_is s.values word p.says q.says s.says)));
   fine = s.told.fine;
-  came = on (told cell (flat_map meant.entries_of_part s.values)) s.told.came;
+  came = on (told_of type_is instance_is (flat_map meant.entries_of_part s.values)) s.told.came;
 }
   where
     the_cell : Cell
-    the_cell = record { cell_type = cell.cell_type.now; instance = view_instance cell.instance; parts = s.values }
+    the_cell = record { cell_type = type_is; instance = instance_is; parts = s.values }
 
     regrouped : (p.tokens ++ (q.tokens ++ s.tokens)) ++ s.ending ≡ p.tokens ++ (q.tokens ++ (s.tokens ++ s.ending))
     regrouped = append_assoc p.tokens (q.tokens ++ s.tokens) s.ending ∙ ap (λ (xs : List Lexeme). p.tokens ++ xs) (append_assoc q.tokens s.tokens s.ending)

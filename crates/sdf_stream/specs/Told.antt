@@ -10,10 +10,13 @@ pub record Told : Type 0 where
   pub instance : Instance
   pub entry : Entry
 
--- entries of a cell
+-- entries of a cell of this type at this instance
+abbrev pub told_of : List ℕ → Instance → List Entry → List Told
+told_of cell_type instance es = map (λ e. record { cell_type = cell_type; instance = instance; entry = e }) es
+
 abbrev pub told : code_cell.Cell → List Entry → List Told
-told cell es = map (λ e. record { cell_type = cell.cell_type.now; instance = view_instance cell.instance; entry = e }) es
+told cell es = told_of cell.cell_type.now (view_instance cell.instance) es
 
 -- all entries of a cell
 abbrev pub told_in : Cell → List Told
-told_in cell = map (λ e. record { cell_type = cell.cell_type; instance = cell.instance; entry = e }) cell.entries
+told_in cell = told_of cell.cell_type cell.instance cell.entries

@@ -19,5 +19,5 @@ returns-clause-scanned g c =
     let here = c.cell.new.self in
     let last = c.scan_parts.new.visitor in
     IfSome_then c.scan_parts.result c.scan_parts.ensures.scanned
-    (λ _ s. cell_scanned c.args.divider (λ ts. p.came first last ts) (λ ts. p.came here last ts) c.args.window.now c.scan_type.new.window c.scan_instance.new.window c.scan_parts.new.window _ (λ ts h. laws.came_more first here last [] ts c.in_ok-cell.ensures.came h)
+    (λ _ s. cell_scanned c.args.divider (λ ts. p.came first last ts) (λ ts. p.came here last ts) c.args.window.now c.scan_type.new.window c.scan_instance.new.window c.scan_parts.new.window _ _ (λ ts h. laws.came_more first here last [] ts c.in_ok-cell.ensures.came h)
     (begins_of keyword.Cell c.deref.result.now c.args.window.now.tokens.items c.deref.ensures.value (c.begins.ensures c.if-not-begins.false)) c.in_ok-cell_type.ensures c.in_ok-instance.ensures s)

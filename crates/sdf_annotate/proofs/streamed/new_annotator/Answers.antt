@@ -8,7 +8,7 @@ use Rattle.sdf_annotate.specs.Seen.{circuit_of}
 use Rattle.sdf_annotate.specs.Told.{told_seen}
 use Rattle.sdf_annotate.specs.declared.values.NewValues.{NewValues}
 use Rattle.sdf_annotate.proofs.WholeSteps.{values-sized}
-use Rattle.sdf_annotate.proofs.streamed.annotator.Goals as goal
+use Rattle.sdf_annotate.proofs.streamed.new_annotator.Goals as goal
 
 pub returns : goal.returns
 returns c =
