@@ -7,6 +7,7 @@ ghost use Rattle.sdf_stream.specs.Streams.{IsOpened};
 ghost use Rattle.sdf_annotate.specs.Seen.{AreCounted};
 ghost use Rattle.sdf_annotate.specs.Streamed.{AreAfterText, IsAnnotatedBy, IsFirst};
 ghost use Rattle.sdf_annotate.specs.Told.{told_seen};
+
 use crate::entries::annotate_entries;
 use crate::search::Search;
 use crate::tasks::Task;
@@ -76,7 +77,7 @@ fn new_annotator<'t, 'p, 's>(
 ) -> Result<Annotator<'t, 'p, 's>, NoMemory>
     requires places { ArePlaces task.places.now }
     requires signals { AreCounted task }
-    ensures { IfOk result (λ a. IsFirst task a) }
+    ensures { IfOk result (λ a. IsFirst task.entry a) }
 {
     let places = task.places;
     let search = Search::new(alloc, &task)?;

@@ -1,5 +1,5 @@
 -- Groups, parts and cells whose contents were read and told.
-use Rattle.std.proofs.Common.{ℕ, ◌≡◌, ◌∙◌, Bool, true, false, List, [], ◌∷◌, ◌++◌, map, refl, sym, ap, subst}
+use Rattle.std.proofs.Common.{ℕ, ◌≡◌, ◌∙◌, true, false, List, [], ◌∷◌, ◌++◌, map, refl, sym, ap, subst}
 use Rattle.std.specs.List.{flat_map}
 use Rattle.std.proofs.lemmas.List.{append_assoc, map-append}
 use Rattle.sdf_lex.specs.Tokens.{Lexeme}
@@ -8,15 +8,14 @@ use Rattle.sdf_tree.specs.declared.tree.Cell as code_cell
 use Rattle.sdf_tree.specs.declared.words.Divider.{Divider}
 use Rattle.sdf_tree.specs.Checks.{check}
 use Rattle.sdf_tree.specs.Entries.{entry, group}
-use Rattle.sdf_tree.specs.Faults.{Crossing}
 use Rattle.sdf_tree.specs.Files.{cell_type, file_part, instance, part}
 use Rattle.sdf_tree.specs.Meant as meant
 use Rattle.sdf_tree.specs.Seen.{view_instance}
-use Rattle.sdf_tree.specs.Written.{Cell, Check, Instance, a_cell, absolute, checks, delays, increment}
+use Rattle.sdf_tree.specs.Written.{Cell, Instance, a_cell, absolute, checks, delays, increment}
 use Rattle.sdf_windows.specs.Movable.{Says}
-use Rattle.sdf_stream.specs.Scans.{AreClosed, AreFine, IsCell, IsScanned, check_contents, entry_contents, group_contents, part_contents}
+use Rattle.sdf_stream.specs.Scans.{AreClosed, IsCell, IsScanned, check_contents, entry_contents, group_contents, part_contents}
 use Rattle.sdf_stream.specs.Told.{Told, told, told_of}
-use Rattle.sdf_stream.specs.Windows.{Begins, IsNext, Passed, seen}
+use Rattle.sdf_stream.specs.Windows.{Begins, IsNext, seen}
 use Rattle.sdf_stream.specs.declared.window.Window.{Window}
 use Rattle.sdf_stream.proofs.Joined.{absolute_says, cell_part_says, cell_says, checks_says, delays_says, increment_says}
 use Rattle.sdf_stream.proofs.Passing.{passed_on}

@@ -1,24 +1,23 @@
 -- A file is read part by part.
-use Rattle.std.proofs.Common.{◌≡◌, ◌∙◌, ℕ, ℤ, ◌^◌, ◌≤◌, Bool, true, false, List, [], ◌∷◌, ◌++◌, length, neg_ℤ, pos, refl, sym, ap, subst, arith}
+use Rattle.std.proofs.Common.{◌≡◌, ◌∙◌, ℕ, ℤ, ◌^◌, ◌≤◌, Bool, true, false, List, [], ◌∷◌, ◌++◌, length, neg_ℤ, pos, refl, sym, ap, subst}
 use Rattle.std.specs.Prelude.{Ok, nat_lt}
 use Rattle.std.specs.List.{flat_map}
 use Rattle.std.proofs.lemmas.Bool.{le-ltb}
 use Rattle.std.proofs.lemmas.List.{append-nil, append_assoc}
 use Rattle.grammar.specs.Rule.{◌▸◌, ◌◂◌}
 use Rattle.grammar.specs.States.{SpellsBy, state_after}
-use Rattle.sdf_lex.specs.Lexes.{Lexes, LexesFrom, Outcome}
+use Rattle.sdf_lex.specs.Lexes.{Lexes, LexesFrom}
 use Rattle.sdf_lex.specs.Tokens.{Lexeme}
 use Rattle.sdf_lex.proofs.OneReading.{reads_end}
 use Rattle.sdf_tree.specs.declared.keywords.Keyword.TheVariants as keyword
 use Rattle.sdf_tree.specs.declared.words.Divider.{Divider}
 use Rattle.sdf_tree.specs.declared.words.Divider.TheVariants.{Point}
-use Rattle.sdf_tree.specs.Faults.{Crossing, file_crossings, file_numbers}
-use Rattle.sdf_tree.specs.Files.{FileState, divider_after, file, file_body, file_part, file_parts_parts, first_state, head, state_after_part}
+use Rattle.sdf_tree.specs.Faults.{file_crossings, file_numbers}
+use Rattle.sdf_tree.specs.Files.{FileState, file, file_body, file_part, file_parts_parts, first_state, head, state_after_part}
 use Rattle.sdf_tree.specs.Kinds.{is_left, is_right, is_word, kind_of}
-use Rattle.sdf_tree.specs.Meant.{Cell, Sdf, cell_of, cells_in, dividers_in, last_or, sdf_of, units_in}
+use Rattle.sdf_tree.specs.Meant.{Cell, cell_of, cells_in, dividers_in, last_or, sdf_of, units_in}
 use Rattle.sdf_tree.specs.Rules.{mark}
-use Rattle.sdf_tree.specs.Written as written
-use Rattle.sdf_tree.specs.Written.{FilePart, Head, Number, a_cell, a_head, divider_head, text_head, unit_head, value_head}
+use Rattle.sdf_tree.specs.Written.{FilePart, Head, a_cell, a_head, divider_head, text_head, unit_head, value_head}
 use Rattle.sdf_tree.proofs.Building as exact
 use Rattle.sdf_tree.proofs.FilesExact.{file_parts-exact}
 use Rattle.sdf_windows.specs.Movable.{Says}
@@ -36,7 +35,7 @@ use Rattle.sdf_stream.specs.Windows.{Begins, HasMore, IsOne, Opened, Passed, see
 use Rattle.sdf_stream.specs.declared.streams.Stream.{Stream}
 use Rattle.sdf_stream.specs.declared.window.Window.{Window}
 use Rattle.sdf_stream.proofs.Joined.{head_part_says}
-use Rattle.sdf_stream.proofs.Passing.{depth_more, from_none, none_deep, passed_on, shallow_more}
+use Rattle.sdf_stream.proofs.Passing.{depth_more, from_none, none_deep, shallow_more}
 use Rattle.sdf_stream.proofs.Scanning.{fine_more, flat_last}
 
 -- ---- places of a text
@@ -210,8 +209,11 @@ module _ (text : List ℕ) where
   pub told_all : (Came : List Told → Type 0) (a : Window) (unit : ℤ) (divider : Divider) {more : Bool} → IsAmid text unit divider Came a more → more ≡ false → EndsText a → IsTellable text unit divider Came
   told_all Came a unit divider r done ends = record {
     parts = r.parts;
-    read = (p.left ∷ p.word ∷ (p.tokens ++ seen a), lexed (p.left ∷ p.word ∷ (p.tokens ++ seen a)) a p.behind ends,
-        (none_deep (p.left ∷ p.word ∷ (p.tokens ++ seen a)) p.behind.shallow, file_says p.left p.word p.tokens (seen a) r.parts p.opens p.begins p.spelled (r.closes done)));
+    read = (
+      p.left ∷ p.word ∷ (p.tokens ++ seen a),
+      lexed (p.left ∷ p.word ∷ (p.tokens ++ seen a)) a p.behind ends,
+      (none_deep (p.left ∷ p.word ∷ (p.tokens ++ seen a)) p.behind.shallow, file_says p.left p.word p.tokens (seen a) r.parts p.opens p.begins p.spelled (r.closes done)),
+    );
     fine = rw (p.fine.numbers, p.fine.crossings) refl;
     unit_is = p.unit_is;
     divider_is = p.divider_is;

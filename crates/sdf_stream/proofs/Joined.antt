@@ -102,6 +102,6 @@ unfolding cell_parts
 cell_says divider u ts us vs ct i ps e s t v =
     let behind : Says (instance divider ∙∙ many (part true divider)) (us ++ vs) (i, ps) = joined kind_of (instance-exact divider) (moves.repeated (part_moves true divider)) us vs i ps t v in
     let all : Says (cell_type ∙∙ (instance divider ∙∙ many (part true divider))) (ts ++ (us ++ vs)) (ct, (i, ps)) =
-        joined kind_of cell_type-exact (moves.then (instance_moves divider) (moves.repeated (part_moves true divider))) ts (us ++ vs) ct (i, ps) s behind
+    joined kind_of cell_type-exact (moves.then (instance_moves divider) (moves.repeated (part_moves true divider))) ts (us ++ vs) ct (i, ps) s behind
     in
     ((ct, (i, ps)), refl, word_says (moves.then cell_type_moves (moves.then (instance_moves divider) (moves.repeated (part_moves true divider)))) keyword.Cell u (ts ++ (us ++ vs)) (ct, (i, ps)) e all)

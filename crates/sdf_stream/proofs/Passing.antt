@@ -2,7 +2,7 @@
 use Rattle.std.proofs.Common.{◌≡◌, ◌∙◌, ℕ, zero, suc, ◌+◌, ◌-◌, ◌<◌, ◌≤◌, Bool, true, false, List, [], ◌∷◌, ◌++◌, length, map, drop, take, Some, refl, sym, ap, subst, arith}
 use Rattle.std.specs.Prelude.{slice_get}
 use Rattle.std.proofs.lemmas.List.{append-nil, append_assoc, drop_at, drop-map, length-drop, length-map}
-use Rattle.sdf_lex.specs.Lexes.{IsLexedBy, LexesFrom, Outcome}
+use Rattle.sdf_lex.specs.Lexes.{IsLexedBy, LexesFrom}
 use Rattle.sdf_lex.specs.Seen.{lexeme}
 use Rattle.sdf_lex.specs.Tokens.{Lexeme}
 use Rattle.sdf_lex.specs.declared.tokens.Token.{Token}

@@ -1,21 +1,20 @@
 -- Parts of a cell are read one after another, and told.
-use Rattle.std.proofs.Common.{◌≡◌, ◌∙◌, Bool, true, false, List, [], ◌∷◌, ◌++◌, None, Option, refl, sym, ap, subst}
+use Rattle.std.proofs.Common.{◌≡◌, ◌∙◌, Bool, true, false, List, [], ◌∷◌, ◌++◌, None, Option, refl, sym, ap}
 use Rattle.std.specs.List.{flat_map}
 use Rattle.std.specs.Option.{option_or}
 use Rattle.std.proofs.lemmas.List.{append-nil, append_assoc}
-use Rattle.sdf_lex.specs.Tokens.{Lexeme}
 use Rattle.sdf_meaning.specs.FirstFaults.{bad_number, crossing}
 use Rattle.sdf_meaning.proofs.FirstFaults.{bad_behind, crossing_behind}
 use Rattle.sdf_tree.specs.Faults.{Crossing}
-use Rattle.sdf_tree.specs.Kinds.{is_right, kind_of}
+use Rattle.sdf_tree.specs.Kinds.{kind_of}
 use Rattle.sdf_tree.specs.Meant as meant
-use Rattle.sdf_tree.specs.Rules.{Grammar, many, mark}
+use Rattle.sdf_tree.specs.Rules.{Grammar, many}
 use Rattle.sdf_tree.specs.Written.{Number}
 use Rattle.sdf_tree.proofs.Building.{IsExact}
-use Rattle.sdf_windows.specs.Movable.{Moves, Says}
+use Rattle.sdf_windows.specs.Movable.{Moves}
 use Rattle.sdf_windows.proofs.Joining.{more_says, none_says}
 use Rattle.sdf_stream.specs.Scans.{AreClosed, AreFine, AreScanned, AreTold, Contents, IsScanned, IsTold}
-use Rattle.sdf_stream.specs.Windows.{IsOne, Opened, Passed, seen}
+use Rattle.sdf_stream.specs.Windows.{IsOne, Opened, seen}
 use Rattle.sdf_stream.specs.declared.window.Window.{Window}
 use Rattle.sdf_stream.proofs.Passing.{passed_none, passed_on}
 

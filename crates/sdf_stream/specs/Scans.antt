@@ -4,7 +4,7 @@ use Rattle.std.specs.List.{flat_map}
 use Rattle.sdf_lex.specs.Tokens.{Lexeme}
 use Rattle.sdf_meaning.specs.FirstFaults.{bad_number, crossing}
 use Rattle.sdf_tree.specs.Faults.{Crossing, body_crossings, body_numbers, check_numbers, group_crossings, group_numbers, part_crossings, part_numbers}
-use Rattle.sdf_tree.specs.Files.{FileState, file_part}
+use Rattle.sdf_tree.specs.Files.{file_part}
 use Rattle.sdf_tree.specs.Kinds.{is_right}
 use Rattle.sdf_tree.specs.Meant as meant
 use Rattle.sdf_tree.specs.Rules.{Grammar, many, mark}

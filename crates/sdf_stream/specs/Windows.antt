@@ -1,5 +1,5 @@
 -- What it says that a text was read on.
-use Rattle.std.specs.Prelude.{◌≡◌, ◌≤◌, ◌<◌, ◌++◌, ℕ, Bool, true, false, List, [], ◌∷◌, length, map}
+use Rattle.std.specs.Prelude.{◌≡◌, ◌≤◌, ◌<◌, ◌++◌, Bool, true, false, List, [], ◌∷◌, length, map}
 use Rattle.sdf_lex.specs.Lexes.{LexesFrom, Outcome}
 use Rattle.sdf_lex.specs.Seen.{lexeme}
 use Rattle.sdf_lex.specs.Tokens.{Lexeme}

@@ -8,10 +8,10 @@ ghost use Rattle.sdf_tree.specs.Rules as rules;
 ghost use Rattle.sdf_windows.specs.Movable.{Says};
 ghost use Rattle.sdf_stream.specs.Windows.{Begins, Grown, HasMore, IsOne, Opened, Stepped};
 
-use sdf_read::depth_after;
 use crate::window::Window;
 use grammar::ReadFault;
 use sdf_lex::{Token, lex_piece};
+use sdf_read::depth_after;
 use sdf_terms::parts::{Form, Part};
 use sdf_terms::tokens::{is_left, is_word, right};
 use sdf_tree::{Divider, Keyword};
@@ -103,13 +103,7 @@ pub fn all_of<T: Drop>(read: Result<(T, usize), ReadFault>, count: usize) -> Opt
     ensures { IfSome result (λ x. read ≡ Ok (x, count)) }
 {
     match read {
-        Ok((value, next)) => {
-            if next == count {
-                Some(value)
-            } else {
-                None
-            }
-        }
+        Ok((value, next)) => { if next == count { Some(value) } else { None } }
         Err(_) => None,
     }
 }

@@ -7,11 +7,11 @@ ghost use Rattle.sdf_tree.specs.Seen.{view_check, view_entry, view_group, view_p
 ghost use Rattle.sdf_stream.specs.Scans.{AreClosed, AreFine, IsScanned, IsTold, check_contents, entry_contents, group_contents, part_contents};
 ghost use Rattle.sdf_stream.specs.Told.{told};
 
-use sdf_read::{Checks, Entries, Groups, Parts};
 use crate::lexing::{begins, opens, whole_part};
 use crate::visits::Visit;
 use crate::window::Window;
 use sdf_meaning::{Valued, add_group, add_part, entry_of, entry_of_check};
+use sdf_read::{Checks, Entries, Groups, Parts};
 use sdf_tree::{
     Cell, Divider, Entry, Keyword, WrittenCheck, WrittenEntry, WrittenGroup, WrittenPart,
 };

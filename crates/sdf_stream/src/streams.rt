@@ -11,13 +11,13 @@ ghost use Rattle.sdf_stream.specs.Streams.{EndsText, IsBegun, IsHead, IsOpened, 
 ghost use Rattle.sdf_stream.specs.Scans.{IsCell};
 ghost use Rattle.sdf_stream.specs.Windows.{IsNext};
 
-use sdf_read::{cell_type, head, head_stands, instance};
 use crate::lexing::{all_of, begins, close, more, opens};
 use crate::scans::{is_fine, scan_parts};
 use crate::visits::Visit;
 use crate::window::Window;
 use grammar::ReadFault;
 use sdf_lex::Token;
+use sdf_read::{cell_type, head, head_stands, instance};
 use sdf_terms::tokens::{left, right};
 use sdf_tree::{Cell, Divider, Instance, Keyword, WrittenFilePart, WrittenHead};
 use sg_time::Unit;
@@ -132,10 +132,7 @@ fn scan_instance<'a>(window: &mut Window<'a>, divider: Divider) -> Option<Instan
         return None;
     }
     close(window)?;
-    all_of(
-        instance(&window.tokens, 0, divider),
-        window.tokens.len(),
-    )
+    all_of(instance(&window.tokens, 0, divider), window.tokens.len())
 }
 
 // The cell that the tokens at hand begin.

@@ -1,5 +1,5 @@
 -- How each way of building a rule over tokens of SDF files is shown to be movable.
-use Rattle.std.proofs.Common.{◌≡◌, ℕ, Bool, List}
+use Rattle.std.proofs.Common.{Bool}
 use Rattle.grammar.specs.Rule as rule
 use Rattle.grammar.specs.Rule.{◌∙∙◌, ◌▸◌, ◌◂◌}
 use Rattle.grammar.specs.States.{many_by}

@@ -1,13 +1,13 @@
 -- What tokens spell that are put together of parts.
-use Rattle.std.proofs.Common.{◌≡◌, ℕ, zero, suc, ◌+◌, ◌<◌, ◌≤◌, Bool, true, List, [], ◌∷◌, ◌++◌, length, Option, Some, None, refl, sym, ap, subst, arith, ◌∙◌, inl, inr}
+use Rattle.std.proofs.Common.{◌≡◌, ℕ, zero, suc, ◌+◌, ◌<◌, Bool, true, List, [], ◌∷◌, ◌++◌, length, refl, sym, subst, arith, ◌∙◌}
 use Rattle.std.specs.Prelude.{slice_get}
 use Rattle.std.proofs.lemmas.List.{length-append}
 use Rattle.grammar.specs.Exact.{Exact, Agree}
 use Rattle.grammar.specs.Language.{Language, SpellsMany}
-use Rattle.grammar.specs.Rule.{Rule, ◌∙∙◌, ◌▸◌, ◌◂◌, one, mapped, quoted, many}
+use Rattle.grammar.specs.Rule.{Rule, ◌∙∙◌, ◌▸◌, ◌◂◌, one, quoted, many}
 use Rattle.grammar.specs.Placed.{placed}
 use Rattle.grammar.specs.States.{state_after, SpellsBy, many_by}
-use Rattle.sdf_windows.specs.Movable.{IsMovable, Moves, Says}
+use Rattle.sdf_windows.specs.Movable.{Moves, Says}
 
 -- the tokens of a front
 front_get : {T : Type 0} (ts us : List T) (n : ℕ) → n < length ts → slice_get (ts ++ us) n ≡ slice_get ts n

@@ -1,10 +1,9 @@
 -- Each way of building a language from others keeps it movable.
-use Rattle.std.proofs.Common.{◌≡◌, ℕ, zero, suc, ◌+◌, ◌<◌, Bool, true, false, List, [], ◌∷◌, ◌++◌, length, Option, Some, None, refl, sym, ap, subst, arith, ◌∙◌, ◌⊎◌, inl, inr}
+use Rattle.std.proofs.Common.{◌≡◌, ℕ, suc, ◌+◌, Bool, true, false, List, [], ◌∷◌, ◌++◌, length, Option, Some, None, ap, arith, ◌∙◌, inl, inr}
 use Rattle.std.specs.Prelude.{slice_get}
-use Rattle.grammar.specs.Depth.{any_depth}
-use Rattle.grammar.specs.Language.{Language, IsToken, one_token, sequence, sequence_by, image, choice, no_language, guarded, SpellsOptional, at_most_once, SpellsMany, repetition}
+use Rattle.grammar.specs.Language.{Language, one_token, sequence, image, choice, no_language, guarded, SpellsOptional, at_most_once, SpellsMany, repetition}
 use Rattle.grammar.specs.Placed.{with_place}
-use Rattle.grammar.specs.States.{state_after, SpellsBy, repetition_by}
+use Rattle.grammar.specs.States.{SpellsBy, repetition_by}
 use Rattle.sdf_windows.specs.Movable.{IsMovable}
 
 pub behind_front : {T : Type 0} (front ts : List T) (i : ℕ) → slice_get (front ++ ts) (length front + i) ≡ slice_get ts i

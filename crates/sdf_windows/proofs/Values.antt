@@ -1,13 +1,13 @@
 -- The rules of values, lists, ports, conditions and tokens that are passed over are movable.
-use Rattle.std.proofs.Common.{ℕ, suc, Bool, true}
+use Rattle.std.proofs.Common.{suc, Bool}
 use Rattle.std.specs.Prelude.{◌==◌}
-use Rattle.grammar.specs.Rule.{only_if, one, mapped}
+use Rattle.grammar.specs.Rule.{only_if, one}
 use Rattle.cond_expr.specs.Vocabulary.{any_word, is_word}
 use Rattle.sdf_tree.specs.declared.words.Divider.{Divider}
 use Rattle.sdf_tree.specs.Conditions.{vocabulary, condition_parts, condition}
 use Rattle.sdf_tree.specs.Kinds.{kind_of, is_left, is_right, is_colon, is_text, is_select, is_number, is_port}
 use Rattle.sdf_tree.specs.Values.{text_parts, text, number_parts, number, others_parts, others, numbers_parts, numbers, value_parts, value, delay_rest_parts, delay_rest, delay_parts, delay, may_end, may_come, list_parts, list, port_parts, port, is_edge, edge_parts, edge_word, is_inside, unclosed_after, balanced_continue, balanced_parts, balanced}
-use Rattle.sdf_windows.specs.Movable.{IsMovable, Moves}
+use Rattle.sdf_windows.specs.Movable.{Moves}
 use Rattle.sdf_windows.proofs.Movable as moves
 use Rattle.sdf_windows.proofs.Building.{the_token, the_mark, then, made, behind, before, called, with_place, or, perhaps, where_so, by_state}
 

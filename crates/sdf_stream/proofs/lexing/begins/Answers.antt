@@ -1,5 +1,5 @@
 -- Two tokens, each of its kind.
-use Rattle.std.proofs.Common.{◌∙◌, arith, length, map, sym}
+use Rattle.std.proofs.Common.{◌∙◌, arith, map, sym}
 use Rattle.std.proofs.lemmas.List.{length-map}
 use Rattle.sdf_lex.specs.Seen.{lexeme}
 use Rattle.sdf_stream.proofs.Wholes.{two_begin}

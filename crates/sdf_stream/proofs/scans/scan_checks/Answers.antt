@@ -1,5 +1,5 @@
 -- One check more, and the end.
-use Rattle.std.proofs.Common.{refl, true}
+use Rattle.std.proofs.Common.{refl}
 use Rattle.sdf_tree.specs.Checks.{check}
 use Rattle.sdf_tree.proofs.Building.{closed, repeated}
 use Rattle.sdf_tree.proofs.ChecksExact.{check-exact}

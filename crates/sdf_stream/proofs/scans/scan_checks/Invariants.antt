@@ -1,5 +1,5 @@
 -- The timing checks so far were read and told.
-use Rattle.std.proofs.Common.{length, true}
+use Rattle.std.proofs.Common.{length}
 use Rattle.sdf_tree.specs.Checks.{check}
 use Rattle.sdf_stream.specs.Scans.{AreScanned, check_contents}
 use Rattle.sdf_stream.specs.Told.{told}

@@ -24,9 +24,11 @@ more-preserved c =
     let i = c.more.invariant in
     let ps = i.read.0 in
     record {
-      read = (ps ++ a_head h ∷ [],
-          subst (λ (said : ℤ × Divider). AreParts text (seen d) d true said.0 said.1 (ps ++ a_head h ∷ [])) (sym c.with_head-said.ensures) (head_more text a b d c.in_ok-more-2.more c.more.said.0.power c.more.said.1 ps h i.read.1 c.in_ok-head.ensures c.in_ok-more-2.ensures),
-          no_cells_more text ps h i.read.2);
+      read = (
+        ps ++ a_head h ∷ [],
+        subst (λ (said : ℤ × Divider). AreParts text (seen d) d true said.0 said.1 (ps ++ a_head h ∷ [])) (sym c.with_head-said.ensures) (head_more text a b d c.in_ok-more-2.more c.more.said.0.power c.more.said.1 ps h i.read.1 c.in_ok-head.ensures c.in_ok-more-2.ensures),
+        no_cells_more text ps h i.read.2,
+      );
       closes = c.in_ok-more-2.ensures.closes;
     }
 

@@ -1,5 +1,5 @@
 -- The heads so far were read, and the next tokens are at hand.
-use Rattle.std.proofs.Common.{◌≡◌, Bool, List, [], false, length, true}
+use Rattle.std.proofs.Common.{◌≡◌, List, [], false, length, true}
 use Rattle.sdf_tree.specs.Kinds.{is_right}
 use Rattle.sdf_tree.specs.Meant.{sdf_of}
 use Rattle.sdf_tree.specs.Rules.{mark}

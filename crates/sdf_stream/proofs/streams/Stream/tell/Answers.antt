@@ -1,5 +1,4 @@
 -- One cell more, and the end.
-use Rattle.std.proofs.Common.{[]}
 use Rattle.std.proofs.lemmas.Option.{IfSome_then}
 use Rattle.sdf_stream.proofs.Filing.{cell_more, opened_amid, told_all}
 use Rattle.sdf_stream.proofs.streams.Stream.tell.Goals as goal
