@@ -73,7 +73,7 @@ module _ (c : Circuit) (sdf : Sdf) (corner : Corner) where
 
 -- ---- all entries of a text
 
-bare : ℤ → Divider → Sdf
+abbrev bare : ℤ → Divider → Sdf
 bare unit divider = record { unit = unit; divider = divider; cells = [] }
 
 module _ (c : Circuit) (text : List ℕ) (corner : Corner) (closed : IsClosed c) (old new : NewValues) (none : old.timings.items ≡ replicate (length (spots c)) None) (limits : old.limits.items ≡ map (λ (t : CheckTiming). t.limits) c.check_timings) (empty : told_seen old.unmatched.items ≡ []) where
