@@ -6,11 +6,10 @@ use Rattle.std.proofs.lemmas.List.{append_assoc, append-nil, take_more, drop_mor
 use Rattle.sg_delay.specs.declared.corners.Corner.{Corner}
 use Rattle.sg_circuit.specs.Circuit.{Circuit}
 use Rattle.sdf_tree.specs.Meant.{Sdf}
-use Rattle.annotation_model.specs.Annotated.{unmatched_in}
 use Rattle.annotation_model.specs.Given.{Given}
-use Rattle.annotation_model.proofs.ProgressLaws.{fine-more, fine-none, large-before, large-more, unmatched-append}
-use Rattle.sdf_annotate.specs.Progress.{AreSized, CameTo, HasAll, StoppedAt}
-use Rattle.sdf_annotate.specs.Told.{told_seen}
+use Rattle.annotation_model.proofs.ProgressLaws.{large-before, large-more}
+pub use Rattle.sdf_annotate.specs.AppliedLaws.{came-more, came-none}
+use Rattle.sdf_annotate.specs.Progress.{CameTo, StoppedAt}
 use Rattle.sdf_annotate.specs.declared.unmatched.AnnotError.{AnnotError}
 use Rattle.sdf_annotate.specs.declared.unmatched.AnnotError.TheVariants.{TooLarge, NoMemory}
 use Rattle.sdf_annotate.specs.declared.values.NewValues.{NewValues}
@@ -46,23 +45,6 @@ module _ {X : Type 0} (f : X → List Given) where
 -- ---- one list of entries behind another
 
 module _ (c : Circuit) (sdf : Sdf) (corner : Corner) where
-  pub came-none : (v : NewValues) → AreSized c v → CameTo c sdf corner [] v v
-  came-none v sized = record {
-    tables = λ done h. subst (λ gs. HasAll c sdf corner gs v) (sym (append-nil done)) h;
-    fine = λ done h. fine-none c sdf corner done;
-    told = sym (append-nil (told_seen v.unmatched.items));
-    sized = sized;
-  }
-
-  pub came-more : (xs ys : List Given) (a b d : NewValues) → CameTo c sdf corner xs a b → CameTo c sdf corner ys b d → CameTo c sdf corner (xs ++ ys) a d
-  came-more xs ys a b d one two = record {
-    tables = λ done h. subst (λ gs. HasAll c sdf corner gs d) (append_assoc done xs ys) (two.tables (done ++ xs) (one.tables done h));
-    fine = λ done h. fine-more c sdf corner done xs ys (one.fine done h) (two.fine (done ++ xs) (one.tables done h));
-    told = two.told ∙ (ap (λ us. us ++ unmatched_in c sdf ys) one.told ∙ (append_assoc (told_seen a.unmatched.items) (unmatched_in c sdf xs) (unmatched_in c sdf ys)
-        ∙ ap (λ us. told_seen a.unmatched.items ++ us) (sym (unmatched-append c sdf corner xs ys))));
-    sized = two.sized;
-  }
-
   pub stopped-more : (xs ys : List Given) (a b : NewValues) (e : AnnotError) → CameTo c sdf corner xs a b → StoppedAt c sdf corner ys b e → StoppedAt c sdf corner (xs ++ ys) a e
   stopped-more xs ys a b NoMemory one two = tt
   stopped-more xs ys a b (TooLarge place) one two = λ done h. large-more c sdf corner done xs ys place (one.fine done h) (two (done ++ xs) (one.tables done h))

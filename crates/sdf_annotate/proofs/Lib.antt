@@ -11,3 +11,4 @@ pub mod RowLaws
 pub mod ScopeLaws
 pub mod TableSteps
 pub mod WholeSteps
+pub mod StreamedSteps

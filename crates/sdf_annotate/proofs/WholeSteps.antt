@@ -15,7 +15,7 @@ use Rattle.sdf_tree.specs.declared.tree.Cell as code_cell
 use Rattle.sdf_tree.specs.declared.tree.Entry as code_entry
 use Rattle.sdf_meaning.specs.MeantSeen.{view_meant, view_meant_cell}
 use Rattle.annotation_model.specs.Annotated.{first_too_large, too_large, unmatched_in}
-use Rattle.annotation_model.specs.Given.{given, given_in}
+use Rattle.annotation_model.specs.Given.{Given, given, given_in}
 use Rattle.annotation_model.specs.Spots.{Checked, Spot, all_checked, spots, timings_of}
 use Rattle.annotation_finder.specs.Finding.{given_seen}
 use Rattle.annotation_setting.specs.Table.{timings_seen}
@@ -60,16 +60,14 @@ module _ (c : Circuit) (sdf : Sdf) (corner : Corner) (closed : IsClosed c) (old 
     each_check = limits ∙ check-limits c closed;
   }
 
-  module _ (cells : List code_cell.Cell) (are : map view_meant_cell cells ≡ sdf.cells) where
-    same : given_of_all cells ≡ given sdf
-    same = cells-same cells ∙ ap (flat_map given_in) are
-
-    pub values-after : (new : NewValues) → told_seen old.unmatched.items ≡ [] → CameTo c sdf corner (given_of_all cells) old new → AreAfter c sdf corner new
-    values-after new empty came = record {
+  -- after all entries of a file
+  module _ (gs : List Given) (same : gs ≡ given sdf) where
+    pub given-after : (new : NewValues) → told_seen old.unmatched.items ≡ [] → CameTo c sdf corner gs old new → AreAfter c sdf corner new
+    given-after new empty came = record {
       fine = fine;
       each_spot = has.each_spot;
       each_check = has.each_check;
-      told = came.told ∙ (ap (λ us. us ++ unmatched_in c sdf (given_of_all cells)) empty ∙ ap (unmatched_in c sdf) same);
+      told = came.told ∙ (ap (λ us. us ++ unmatched_in c sdf gs) empty ∙ ap (unmatched_in c sdf) same);
       sized = came.sized;
       timings = timings-fit c sdf corner closed fine new.timings.items came.sized.timings has.each_spot;
       limits = limits-fit c closed sdf corner fine new.limits.items has.each_check;
@@ -79,7 +77,14 @@ module _ (c : Circuit) (sdf : Sdf) (corner : Corner) (closed : IsClosed c) (old 
         has = subst (λ gs. HasAll c sdf corner gs new) same (came.tables [] values-first)
 
         fine : too_large c sdf corner ≡ None
-        fine = ap (λ gs. first_too_large c sdf corner [] gs) (sym same ∙ sym (append-nil (given_of_all cells))) ∙ (came.fine [] values-first).on []
+        fine = ap (λ gs. first_too_large c sdf corner [] gs) (sym same ∙ sym (append-nil gs)) ∙ (came.fine [] values-first).on []
+
+  module _ (cells : List code_cell.Cell) (are : map view_meant_cell cells ≡ sdf.cells) where
+    same : given_of_all cells ≡ given sdf
+    same = cells-same cells ∙ ap (flat_map given_in) are
+
+    pub values-after : (new : NewValues) → told_seen old.unmatched.items ≡ [] → CameTo c sdf corner (given_of_all cells) old new → AreAfter c sdf corner new
+    values-after new empty came = given-after (given_of_all cells) same new empty came
 
     pub values-told : (e : AnnotError) → StoppedAt c sdf corner (given_of_all cells) old e → IsTooLargeAt c sdf corner e
     values-told NoMemory s = tt

@@ -4,3 +4,5 @@ pub mod Search
 pub mod Seen
 pub mod Told
 pub mod Whole
+pub mod Streamed
+pub mod AppliedLaws

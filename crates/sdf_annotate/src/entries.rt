@@ -41,8 +41,8 @@ fn annotate_entry(
     Ok(())
 }
 
-// The entries of a cell.
-fn annotate_entries(
+/// The entries of a cell.
+pub fn annotate_entries(
     alloc: Global,
     task: &Task<'_, '_, '_>,
     cell: &Cell<'_>,

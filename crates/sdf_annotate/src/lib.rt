@@ -7,6 +7,7 @@ mod limits;
 mod notes;
 mod scales;
 mod search;
+mod streamed;
 mod tasks;
 mod timings;
 mod unmatched;
@@ -14,4 +15,5 @@ mod values;
 mod words;
 
 pub use annotating::annotate;
+pub use streamed::annotate_text;
 pub use unmatched::{AnnotError, Unmatched};

@@ -7,7 +7,7 @@ use Rattle.sg_text.specs.declared.refusals.Refused.{Refused}
 use Rattle.sg_text.specs.declared.refusals.Refused.TheVariants as refused
 use Rattle.std.proofs.lemmas.List.{append-nil, append_cancel_left, append_assoc, take_at, drop_at, length-append}
 use Rattle.sdf_lex.specs.Pieces.{Piece, blank_piece, line_comment, block_comment, open_comment, word_piece, text_piece, open_text, symbol_piece, mark_piece, bad_piece, spelling, HasForm, IsPiece, spellings, Spelled, tokens_of, tokens, is_bad}
-use Rattle.sdf_lex.specs.Lexes.{Outcome, fault_at, outcome, LexesFrom, Lexes, Stands, Tells}
+use Rattle.sdf_lex.specs.Lexes.{Outcome, fault_at, outcome, LexesFrom, Lexes, Stands, Tells, IsRefusedBy}
 use Rattle.sdf_lex.specs.Seen.{lexeme}
 use Rattle.sdf_lex.specs.declared.faults.LexKind.{LexKind}
 use Rattle.sdf_lex.specs.declared.tokens.Token.{Token}
@@ -168,6 +168,12 @@ pub step_bad : (before : List Lexeme) (at : ℕ) (kind : Kind) (text : List ℕ)
     → LexesFrom before at text (fault_at BadByte at)
 step_bad before at kind [] lt k bad = absurd (omega arith)
 step_bad before at kind (b ∷ bs) lt k bad = reads_bad before at b bs (good_is (first_piece (b ∷ bs)) kind true k bad)
+
+-- what is refused of the rest is refused of the whole
+pub refused_so : (text rest : List ℕ) (before : List Lexeme) (at : ℕ) (r : Refused LexKind) → ((o : Outcome) → LexesFrom before at rest o → LexesFrom [] 0 text o)
+    → IsRefusedBy before at rest r → Stands (LexesFrom [] 0 text) (Err r)
+refused_so text rest before at (refused.Fault k p) so h = so (Err (record { kind = k; place = p })) h
+refused_so text rest before at refused.NoMemory so h = tt
 
 -- ---- no other outcome
 

@@ -1,5 +1,5 @@
 -- The tokens of an SDF file, or its fault.
-use Rattle.std.specs.Prelude.{ℕ, ◌≡◌, ◌^◌, ◌++◌, nat_lt, List, [], length, Bool, true, false, Option, Some, None, Result, Ok, Err, map}
+use Rattle.std.specs.Prelude.{ℕ, ◌≡◌, ◌^◌, ◌+◌, ◌++◌, nat_lt, List, [], length, drop, Bool, true, false, Option, Some, None, Result, Ok, Err, map}
 use Rattle.std.specs.Global.{Vec}
 use Rattle.sg_text.specs.declared.places.Place.{Place}
 use Rattle.sg_text.specs.declared.refusals.Refused.{Refused}
@@ -32,6 +32,17 @@ outcome before at ps = bad_or (first_bad at ps) (before ++ tokens at ps)
 -- the pieces of the text that is left come to this
 abbrev pub LexesFrom : List Lexeme → ℕ → List ℕ → Outcome → Type 0
 LexesFrom before at text o = (ps : List Piece) × Spelled text ps × (o ≡ outcome before at ps)
+
+-- Tokens come behind others, and what comes of the text behind its first bytes comes of the text with them in front.
+pub record IsLexedBy (at : ℕ) (text : List ℕ) (size : ℕ) (before after : List Lexeme) : Type 0 where
+  pub more : List Lexeme
+  pub added : after ≡ before ++ more
+  pub goes_on : (others : List Lexeme) (o : Outcome) → LexesFrom (others ++ more) (at + size) (drop size text) o → LexesFrom others at text o
+
+-- a fault is what comes of the text; want of memory is free
+abbrev pub IsRefusedBy : List Lexeme → ℕ → List ℕ → Refused LexKind → Type 0
+IsRefusedBy before at text (refused.Fault k p) = LexesFrom before at text (Err (record { kind = k; place = p }))
+IsRefusedBy before at text refused.NoMemory = Unit {0}
 
 abbrev pub LexesUnless : Bool → ℕ → List ℕ → Outcome → Type 0
 LexesUnless true largest text o = o ≡ fault_at FileTooLarge largest

@@ -13,5 +13,5 @@ mod words;
 
 pub use faults::LexKind;
 pub use names::{called, first_part, is_instance_name, is_name};
-pub use reading::lex;
+pub use reading::{lex, lex_piece};
 pub use tokens::{Lexeme, Token, before_select};

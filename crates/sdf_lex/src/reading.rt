@@ -1,10 +1,11 @@
 // A whole file, piece by piece.
-ghost use Rattle.std.specs.Prelude.{◌≡◌, ◌≤◌, ◌<◌, ◌+◌, ◌-◌, ◌^◌, ◌++◌, ◌∷◌, [], length, take, drop, map, nat_lt, IfSome, OnOk};
+ghost use Rattle.std.specs.Prelude.{◌≡◌, ◌≤◌, ◌<◌, ◌+◌, ◌-◌, ◌^◌, ◌++◌, ◌∷◌, [], List, length, take, drop, map, nat_lt, IfSome, IfOk, IfErr, OnOk};
 ghost use Rattle.sdf_lex.specs.Seen.{meaning, lexeme};
 ghost use Rattle.sdf_lex.specs.Operators.{operator_of};
 ghost use Rattle.sdf_lex.specs.Pieces.{here, symbol_meaning};
 ghost use Rattle.sdf_lex.specs.PieceBridge.{bracket_tokens, first_mark, kind_tokens, IsWithin};
-ghost use Rattle.sdf_lex.specs.Lexes.{Outcome, LexesFrom, Lexes, Stands, Tells};
+ghost use Rattle.sdf_lex.specs.Tokens.{Lexeme as LexemeSeen};
+ghost use Rattle.sdf_lex.specs.Lexes.{Outcome, LexesFrom, Lexes, Stands, Tells, IsLexedBy, IsRefusedBy};
 
 use crate::faults::LexKind;
 use crate::operators::operator_of;
@@ -122,6 +123,28 @@ fn is_too_large(bytes: &[u8]) -> bool
     bytes.len() > LARGEST
 }
 
+/// Puts the tokens of the first piece of a text behind others, and answers how many bytes the piece has. The text begins at byte `at`
+/// of its file. A bad byte is the fault at it.
+pub fn lex_piece<'a>(
+    tokens: &mut Vec<Token<'a>>,
+    at: usize,
+    rest: &'a [u8],
+) -> Result<usize, Refused<LexKind>>
+    requires some { 0 < length rest.now }
+    requires few { at + length rest.now ≤ 2 ^ 28 }
+    ensures size { IfOk result (λ size. (0 < size) × (size ≤ length rest.now)) }
+    // Behind them stands what comes of the rest.
+    ensures found { IfOk result (λ size. IsLexedBy at rest.now size (map lexeme tokens.old.items) (map lexeme tokens.new.items)) }
+    ensures refused { (before : List LexemeSeen) → IfErr result (λ r. IsRefusedBy before at rest.now r) }
+{
+    let (kind, size) = first_piece(rest);
+    if is_bad(kind) {
+        return Err(fault(LexKind::BadByte, at));
+    }
+    push_piece(tokens, at, kind, &rest[..size])?;
+    Ok(size)
+}
+
 fn lex_small(alloc: Global, bytes: &[u8]) -> Result<Vec<Token<'_>>, Refused<LexKind>>
     requires { length bytes.now ≤ 2 ^ 28 }
     ensures { Stands (LexesFrom [] 0 bytes.now) result }
@@ -130,14 +153,9 @@ fn lex_small(alloc: Global, bytes: &[u8]) -> Result<Vec<Token<'_>>, Refused<LexK
     let mut at = 0;
     let mut rest = bytes;
     while !rest.is_empty() {
-        let (kind, size) = first_piece(rest);
-        let (piece, tail) = rest.split_at(size);
-        if is_bad(kind) {
-            return Err(fault(LexKind::BadByte, at));
-        }
-        push_piece(&mut tokens, at, kind, piece)?;
+        let size = lex_piece(&mut tokens, at, rest)?;
         at += size;
-        rest = tail;
+        rest = &rest[size..];
     }
     Ok(tokens)
 }

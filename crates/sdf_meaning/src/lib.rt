@@ -7,5 +7,6 @@ mod meant_entries;
 mod meant_files;
 mod numbers;
 
-pub use first_faults::{file_bad_number, file_crossing};
+pub use first_faults::{Valued, file_bad_number, file_crossing};
+pub use meant_entries::{add_group, add_part, entry_of, entry_of_check};
 pub use meant_files::sdf_of;

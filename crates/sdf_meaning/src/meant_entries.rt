@@ -48,7 +48,8 @@ fn kind_of_body<'a>(alloc: Global, body: WrittenBody<'a>) -> Result<EntryKind<'a
     }
 }
 
-fn entry_of<'a>(
+/// An entry of `ABSOLUTE`, or of `INCREMENT`.
+pub fn entry_of<'a>(
     alloc: Global,
     increment: bool,
     entry: WrittenEntry<'a>,
@@ -81,7 +82,7 @@ fn add_entries<'a>(
 }
 
 /// Puts the entries of a group behind others.
-fn add_group<'a>(
+pub fn add_group<'a>(
     alloc: Global,
     entries: &mut Vec<Entry<'a>>,
     group: WrittenGroup<'a>,
@@ -160,6 +161,18 @@ fn kind_of_check(body: WrittenCheckBody<'_>) -> EntryKind<'_>
             limit: triple_of(limit),
         }),
         WrittenCheckBody::Skipped(construct) => EntryKind::Skipped(construct),
+    }
+}
+
+/// A timing check as an entry.
+pub fn entry_of_check(check: WrittenCheck<'_>) -> Entry<'_>
+    ensures { view_meant result ≡ meant.entry_of_check (view_check check.entry) }
+{
+    let place = check.place;
+    Entry {
+        place,
+        increment: false,
+        kind: kind_of_check(check.body),
     }
 }
 

@@ -1,6 +1,6 @@
 -- The modules of this folder.
 pub mod PathTails
-pub mod Parts
+pub mod PartsExact
 pub mod FileLists
 pub mod Failed
 pub mod Depths

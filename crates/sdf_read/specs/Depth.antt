@@ -1,5 +1,5 @@
 -- How deep parentheses stand within one another, over all tokens of a file.
-use Rattle.std.specs.Prelude.{◌≡◌, ℕ, suc, ◌-◌, ◌+◌, ◌<◌, List, [], ◌∷◌, take, Some, slice_get}
+use Rattle.std.specs.Prelude.{◌≡◌, ℕ, suc, ◌-◌, ◌+◌, ◌<◌, ◌≤◌, List, [], ◌∷◌, take, Some, slice_get}
 use Rattle.sdf_lex.specs.Tokens.{Meaning, Lexeme, left_token, right_token}
 
 -- how many are open behind a token; one that closes nothing counts for nothing
@@ -23,3 +23,8 @@ IsTooDeep ts i = Exceeds ts i × ((j : ℕ) → j < i → Exceeds ts j → ⊥)
 
 abbrev pub NoneTooDeep : List Lexeme → Type 0
 NoneTooDeep ts = (i : ℕ) → Exceeds ts i → ⊥
+
+-- behind a depth, none of these tokens is too deep
+abbrev pub AreShallow : ℕ → List Lexeme → Type 0
+AreShallow depth [] = Unit {0}
+AreShallow depth (t ∷ ts) = (depth_behind depth t.meaning ≤ 32) × AreShallow (depth_behind depth t.meaning) ts

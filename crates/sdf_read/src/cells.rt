@@ -36,7 +36,7 @@ pub enum PartBody<'a> {
 }
 
 /// `DELAY { group } | TIMINGCHECK { check } | (TIMINGENV | LABEL) balanced`
-#[tactic(auto, using(crate::proofs::Parts::group_part, crate::proofs::Parts::check_part), unfolding(sdf_tree::specs::Files::part_body_parts))]
+#[tactic(auto, using(crate::proofs::PartsExact::group_part, crate::proofs::PartsExact::check_part), unfolding(sdf_tree::specs::Files::part_body_parts))]
 fn part_body<'a>(
     alloc: Global,
     tokens: &[Token<'a>],
@@ -115,7 +115,7 @@ impl<'a> Part<'a> for Parts {
 
 /// `"(" CELLTYPE text ")"`
 #[tactic(auto, unfolding(sdf_tree::specs::Files::cell_type_parts))]
-fn cell_type<'a>(tokens: &[Token<'a>], at: usize) -> Result<(&'a [u8], usize), ReadFault>
+pub fn cell_type<'a>(tokens: &[Token<'a>], at: usize) -> Result<(&'a [u8], usize), ReadFault>
     ensures { Gives (λ x. (x.0.now, x.1)) result (files.cell_type.read (map lexeme tokens.now) at) }
 {
     let next = left(tokens, at)?;
@@ -194,7 +194,7 @@ fn optional_instance<'a>(
 
 /// `"(" INSTANCE [ "*" | instance-path ] ")"`
 #[tactic(auto, unfolding(sdf_tree::specs::Files::instance_parts))]
-fn instance<'a>(
+pub fn instance<'a>(
     tokens: &[Token<'a>],
     at: usize,
     divider: Divider,
@@ -212,7 +212,7 @@ fn instance<'a>(
 }
 
 /// `CELL cell-type instance { part }`
-#[tactic(auto, using(crate::proofs::Parts::cell_part), unfolding(sdf_tree::specs::Files::cell_parts))]
+#[tactic(auto, using(crate::proofs::PartsExact::cell_part), unfolding(sdf_tree::specs::Files::cell_parts))]
 pub fn cell<'a>(
     alloc: Global,
     tokens: &[Token<'a>],

@@ -1,7 +1,7 @@
 // How deep parentheses stand within one another.
-ghost use Rattle.std.specs.Prelude.{◌≡◌, ◌≤◌, ◌<◌, ◌↔◌, IsTrue, MatchOption, map};
+ghost use Rattle.std.specs.Prelude.{◌≡◌, ◌≤◌, ◌<◌, ◌↔◌, IfSome, IsTrue, MatchOption, map};
 ghost use Rattle.sdf_lex.specs.Seen.{lexeme, meaning};
-ghost use Rattle.sdf_read.specs.Depth.{IsTooDeep, NoneTooDeep, depth_behind};
+ghost use Rattle.sdf_read.specs.Depth.{AreShallow, IsTooDeep, NoneTooDeep, depth_behind, depth_from};
 
 use sdf_lex::{Lexeme, Token};
 use sdf_terms::tokens::token_at;
@@ -42,4 +42,22 @@ pub fn first_too_deep(tokens: &[Token<'_>]) -> Option<usize>
         at += 1;
     }
     None
+}
+
+/// How many parentheses are open behind tokens, where it is nowhere more than 32.
+pub fn depth_after(tokens: &[Token<'_>], depth: u64) -> Option<u64>
+    requires { depth ≤ 32 }
+    ensures { IfSome result (λ behind. (behind ≤ 32) × (behind ≡ depth_from depth (map lexeme tokens.now)) × AreShallow depth (map lexeme tokens.now)) }
+{
+    let mut open = depth;
+    let mut rest = tokens;
+    while let [token, tail @ ..] = rest {
+        let behind = depth_behind(open, token.lexeme);
+        if is_too_deep(behind) {
+            return None;
+        }
+        open = behind;
+        rest = tail;
+    }
+    Some(open)
 }

@@ -60,7 +60,7 @@ fn pulse<'a>(
 }
 
 /// `ABSOLUTE { entry } | INCREMENT { entry } | pulse`
-#[tactic(auto, using(crate::proofs::Parts::entry_part), unfolding(sdf_tree::specs::Entries::group_body_parts))]
+#[tactic(auto, using(crate::proofs::PartsExact::entry_part), unfolding(sdf_tree::specs::Entries::group_body_parts))]
 fn group_body<'a>(
     alloc: Global,
     tokens: &[Token<'a>],

@@ -17,7 +17,7 @@ use Rattle.sdf_tree.specs.declared.tree.Sdf as code_sdf
 use Rattle.sdf_read.specs.Outcomes.{refused}
 use Rattle.sdf_read.specs.Reads.{Reads}
 use Rattle.sdf_read.specs.declared.faults.SdfKind.{SdfKind}
-use Rattle.signoff_phases.specs.Phases.{words, sdf, sdf_kind, too_large_kind, unmatched_at, Annotated, AnnotationOutcome, SdfOutcome}
+use Rattle.signoff_phases.specs.Phases.{words, sdf, sdf_kind, too_large_kind, unmatched_at, Annotated, AnnotationOutcome, EntriesOutcome, SdfOutcome, goes_on}
 use Rattle.signoff_phases.specs.Stops.{Gives, SparesWords, refusal_seen}
 use Rattle.signoff_phases.specs.declared.stop.Refusal as code_refusal
 use Rattle.signoff_phases.specs.declared.stop.Refusal.TheVariants as refusal
@@ -37,6 +37,11 @@ applied name text file corner old new us h = record {
     unmatched = lines_told text us.items ∙ ap (map (unmatched_at text)) h.unmatched;
   };
 }
+
+-- the same of a text that was read entry by entry
+pub read_and_applied : (name text : List ℕ) (file : Sdf) (corner : Corner) (old new : Circuit) (us : Vec code_unmatched.Unmatched) → Reads text (Ok file) → IsAnnotated old file corner new (told_seen us.items)
+    → Gives {X = Vec code_unmatched.Unmatched} (λ x. record { circuit = new; unmatched = map (unmatched_seen text) x.items }) (EntriesOutcome name text corner old) (Ok us)
+read_and_applied name text file corner old new us read h = record { outcome = goes_on file (Ok (record { circuit = new; unmatched = map (unmatched_seen text) us.items })) read (applied name text file corner old new us h).outcome }
 
 pub refused_entry : (name text : List ℕ) (file : Sdf) (corner : Corner) (old : Circuit) (place : Place) (r : code_refusal.Refusal) (view : Vec code_unmatched.Unmatched → Annotated)
     → too_large old file corner ≡ Some place → refusal_seen r ≡ sdf name (line_of text place.byte) too_large_kind

@@ -13,7 +13,7 @@ ghost use Rattle.signoff_phases.specs.AnnotatedSeen.{annotated_seen};
 use crate::phases::file_phase;
 use crate::stop::{Refusal, SdfFault, Stop};
 use run_words::Design;
-use sdf_annotate::{AnnotError, Unmatched, annotate};
+use sdf_annotate::{AnnotError, Unmatched, annotate, annotate_text};
 use sdf_read::read_sdf;
 use sdf_tree::Sdf;
 use sg_circuit::Circuit;
@@ -90,6 +90,9 @@ pub fn apply_text<'a>(
     ensures works { NeverFails result }
     ensures words { IfErr result (λ s. SparesWords s) }
 {
+    if let Some(unmatched) = annotate_text(alloc, circuit, text, corner) {
+        return Ok(unmatched);
+    }
     let sdf = sdf_phase(alloc, name, text)?;
     annotation_phase(alloc, name, text, &sdf, corner, circuit)
 }
