@@ -21,7 +21,7 @@ use Rattle.time_checks.specs.Violations.{latest_events, violations_since}
 use Rattle.time_checks.specs.Adjusted.{adjusted_check, adjusted_checks}
 use Rattle.sim_rounds.specs.CircuitChecks.{AreBegun, AreChecksOver, AreListed}
 use Rattle.sim_rounds.specs.Engines.{AreChecksAt, AreChecksBy}
-use Rattle.sim_rounds.specs.Notifiers.{notifiers_of}
+use Rattle.sim_machine.specs.Notifiers.{notifiers_of}
 
 -- the notifiers are nets
 net_of : (circuit : Circuit) (o : Option ℕ) → IfSome o (λ n. IsNotifier circuit n) → IfSome o (λ n. n < length circuit.nets)

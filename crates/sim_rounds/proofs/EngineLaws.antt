@@ -32,10 +32,10 @@ use Rattle.sim_times.specs.Checks.{AreFree}
 use Rattle.sim_times.specs.Simulations.{AreChecksOf, IsReadyAt, StandsBetween}
 use Rattle.sim_times.specs.Steps.{CanApply}
 use Rattle.sim_rounds.specs.CircuitChecks.{AreBegun, AreChecksOver, HaveSeen}
-use Rattle.sim_rounds.specs.Elements.{ElementsSeen}
+use Rattle.sim_machine.specs.Elements.{ElementsSeen}
 use Rattle.sim_rounds.specs.Engines.{AreChecksAt, IsEngineAt}
-use Rattle.sim_rounds.specs.Notifiers.{notifiers_of}
-use Rattle.sim_rounds.specs.Simulated.{machine_of, machine_since}
+use Rattle.sim_machine.specs.Notifiers.{notifiers_of}
+use Rattle.sim_machine.specs.Simulated.{machine_of, machine_since}
 use Rattle.sim_rounds.proofs.CircuitChecksLaws.{checks_over_nets}
 use Rattle.sim_rounds.proofs.NotifierLaws.{notifiers_free}
 use Rattle.sim_rounds.proofs.MachineLaws.{steady, later, one_driver, input_is_no_output, outputs_within, length-inputs, length-outputs}

@@ -8,7 +8,7 @@ use Rattle.sg_model.specs.Round.{placed_by}
 use Rattle.cond_expr.specs.Tree.{leaf}
 use Rattle.sg_circuit.specs.Circuit.{Late, Path}
 use Rattle.sg_circuit.specs.Paths as specify
-use Rattle.sim_rounds.specs.Simulated.{late_rule, rule_of_kind}
+use Rattle.sim_machine.specs.Simulated.{late_rule, rule_of_kind}
 
 -- from a or b, with a delay for a rise and one for a fall, and limits 2 and 9 of the fall
 abbrev path_from : ℕ → specify.PathCondition → ℕ → specify.Path

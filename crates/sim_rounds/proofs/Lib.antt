@@ -5,10 +5,7 @@ pub mod ToggleLaws
 pub mod CircuitChecksLaws
 pub mod SeenLaws
 pub mod TouchedLaws
-pub mod PlacingLaws
 mod Examples
-pub mod DelayLaws
-pub mod ElementLaws
 pub mod RestoredLaws
 pub mod EngineLaws
 pub mod SimLaws
@@ -29,4 +26,3 @@ pub mod VerdictLaws
 pub mod FittingLaws
 pub mod SettlingLaws
 mod MomentExamples
-pub mod AtOnceLaws

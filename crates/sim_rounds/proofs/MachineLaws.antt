@@ -21,9 +21,9 @@ use Rattle.sg_circuit.specs.declared.checks.Check.{Check}
 use Rattle.time_checks.specs.declared.latest.Latest.{Latest}
 use Rattle.time_checks.specs.Adjusted.{adjusted_checks}
 use Rattle.time_checks.proofs.QuietLaws.{violations-again}
-use Rattle.sim_rounds.specs.Notifiers.{is_named, numbers_from}
+use Rattle.sim_machine.specs.Notifiers.{is_named, numbers_from}
 use Rattle.fan_round.specs.Rounds.{IsLater, time_of_rule}
-use Rattle.sim_rounds.specs.Simulated.{machine_of, machine_since, values_at, value_of_kind, rule_of_kind}
+use Rattle.sim_machine.specs.Simulated.{machine_of, machine_since, values_at, value_of_kind, rule_of_kind}
 
 pub lawful_since : (circuit : Circuit) (earlier : List Latest) → IsLawful (machine_since circuit earlier)
 lawful_since circuit earlier = record {

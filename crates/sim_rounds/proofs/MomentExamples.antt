@@ -8,7 +8,7 @@ use Rattle.sg_model.specs.Values.{value_at}
 use Rattle.sg_model.specs.Pending.{IsPending}
 use Rattle.sg_circuit.specs.declared.nets.Driver.TheVariants as driver
 use Rattle.sg_circuit.specs.Circuit.{Circuit, Gate, element_at, net_at}
-use Rattle.sim_rounds.specs.Simulated.{machine_of}
+use Rattle.sim_machine.specs.Simulated.{machine_of}
 use Rattle.sim_rounds.specs.Moments.{Fits, Moment, Pending, IsStampOf, computed_last, pending_of, stamp_at}
 
 abbrev buffer : Circuit

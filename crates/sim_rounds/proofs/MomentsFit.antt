@@ -32,7 +32,7 @@ use Rattle.sim_times.specs.Runs.{changed_since, run_for, run_from, start_of}
 use Rattle.sim_rounds.specs.MomentLaws.{IsWhole, MomentsFit}
 use Rattle.sim_rounds.specs.Moments.{Fits, IsStampOf, Moment, computed_last, moment_of, pending_of, run_of_moment, state_of, udp_states}
 use Rattle.sim_rounds.specs.Setting.{setting_of}
-use Rattle.sim_rounds.specs.Simulated.{first_of_kind, first_state, first_value_of, machine_of, machine_since}
+use Rattle.sim_machine.specs.Simulated.{first_of_kind, first_state, first_value_of, machine_of, machine_since}
 use Rattle.sim_rounds.specs.Stopping.{origin_at, setting_since}
 use Rattle.sim_rounds.proofs.EventTimes.{all_later, last_by, latest_by, since_by}
 use Rattle.sim_rounds.proofs.MachineLaws.{output_at, steady}

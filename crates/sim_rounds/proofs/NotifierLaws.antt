@@ -19,8 +19,8 @@ use Rattle.time_checks.specs.declared.violations.Violation as code_violation
 use Rattle.time_checks.specs.Seen.{violation_seen}
 use Rattle.time_checks.proofs.TouchLaws.{RisesFrom, rises, below_none, marked-once, unlisted-unmarked, listed-within}
 use Rattle.sim_times.specs.Checks.{AreFree}
-use Rattle.sim_rounds.specs.Notifiers.{notifier_at, is_net, is_named, numbers_from, notifiers_of}
-use Rattle.sim_rounds.specs.Simulated.{machine_of}
+use Rattle.sim_machine.specs.Notifiers.{notifier_at, is_net, is_named, numbers_from, notifiers_of}
+use Rattle.sim_machine.specs.Simulated.{machine_of}
 use Rattle.sim_rounds.proofs.MachineLaws.{notifier_is_no_output}
 
 -- numbers from k on are not below k

@@ -16,7 +16,7 @@ use Rattle.sim_times.specs.Times.{Kept}
 use Rattle.sim_times.specs.Watching.{AreCalls, AreDifferences, Call, HasTold, NetChange, at_zero, end_call}
 use Rattle.sim_times.proofs.CallLaws.{same-self_all}
 use Rattle.sim_rounds.specs.Moments.{Fits, Moment, computed_last, pending_of, snapshot_of, state_of}
-use Rattle.sim_rounds.specs.Simulated.{machine_of}
+use Rattle.sim_machine.specs.Simulated.{machine_of}
 use Rattle.sim_rounds.specs.Stopping.{origin_at, told_of}
 use Rattle.sim_rounds.proofs.EngineLaws.{CanGoOn}
 use Rattle.sim_rounds.proofs.MachineLaws.{output_at}

@@ -15,7 +15,7 @@ use Rattle.fan_round.specs.Rounds.{AreHanded, AreSettled}
 use Rattle.fan_round.proofs.RoundLaws.{round_settles}
 use Rattle.time_checks.specs.declared.latest.Latest.{Latest}
 use Rattle.sim_times.proofs.NamingLaws.{toggles_handed}
-use Rattle.sim_rounds.specs.Simulated.{machine_of, machine_since}
+use Rattle.sim_machine.specs.Simulated.{machine_of, machine_since}
 use Rattle.sim_rounds.proofs.NotifierLaws.{notifiers_free}
 use Rattle.sim_rounds.proofs.PendingInvariants.{neither}
 use Rattle.sim_rounds.proofs.StateInvariants.{Stands, round_stands, stands_later, stands_next}

@@ -18,16 +18,16 @@ use Rattle.sg_circuit.specs.Closed.{IsClosed}
 use Rattle.sg_circuit.specs.Seen.{circuit_seen, element_seen, kind_seen}
 use Rattle.sg_circuit.proofs.SeenLaws.{all-unmapped, map-mapped}
 use Rattle.udp_table.specs.declared.table.Table.{Table}
-use Rattle.sim_rounds.specs.declared.computing.Inputs.{Inputs}
+use Rattle.sim_machine.specs.declared.computing.Inputs.{Inputs}
 use Rattle.sim_rounds.specs.declared.moments.Pending as code_pending
-use Rattle.sim_rounds.specs.Elements.{IsElement}
-use Rattle.sim_rounds.specs.Evaluable.{AreEvaluable}
-use Rattle.sim_rounds.specs.Inputs.{HasRoom, IsRoomier}
-use Rattle.sim_rounds.specs.Simulated.{machine_of, values_at, value_of_kind}
+use Rattle.sim_machine.specs.Elements.{IsElement}
+use Rattle.sim_machine.specs.Evaluable.{AreEvaluable}
+use Rattle.sim_machine.specs.Inputs.{HasRoom, IsRoomier}
+use Rattle.sim_machine.specs.Simulated.{machine_of, values_at, value_of_kind}
 use Rattle.sim_rounds.specs.Moments.{Moment, Pending, computed_last, pending_of, state_of, udp_states}
 use Rattle.sim_rounds.specs.MomentsSeen.{pending_seen}
 use Rattle.sim_rounds.specs.Fitting.{AreComputed, AreLast, AreOrdered, HasStates, IsSettled}
-use Rattle.sim_rounds.proofs.ElementLaws.{is_element, computed}
+use Rattle.sim_machine.proofs.ElementLaws.{is_element, computed}
 use Rattle.sim_rounds.proofs.VerdictLaws.{fails, moved, refuted}
 
 -- the nets that elements drive are nets

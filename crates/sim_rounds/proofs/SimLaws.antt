@@ -17,7 +17,7 @@ use Rattle.sim_times.specs.Runs.{IsOriginOf, origin_of}
 use Rattle.sim_times.specs.Times.{Kept}
 use Rattle.sim_times.specs.Watching.{none_yet}
 use Rattle.sim_rounds.specs.Setting.{setting_of}
-use Rattle.sim_rounds.specs.Simulated.{first_state, first_value_of, machine_of}
+use Rattle.sim_machine.specs.Simulated.{first_state, first_value_of, machine_of}
 use Rattle.sim_rounds.proofs.EngineLaws.{CanGoOn}
 
 -- nothing is pending

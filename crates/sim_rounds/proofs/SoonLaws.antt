@@ -15,8 +15,8 @@ use Rattle.sg_circuit.specs.Paths as specify
 use Rattle.sg_circuit.specs.Timings.{Timing, timing_at, timing_between}
 use Rattle.path_pick.specs.Choice.{time_of, stamp_at, input_time, delay_of, allowed, on_edge, latest, quickest, chosen, picked_for}
 use Rattle.fan_round.specs.Rounds.{time_of_rule}
-use Rattle.sim_rounds.specs.Simulated.{rule_of_kind}
-use Rattle.sim_rounds.proofs.DelayLaws.{delay_fits}
+use Rattle.sim_machine.specs.Simulated.{rule_of_kind}
+use Rattle.sim_machine.proofs.DelayLaws.{delay_fits}
 
 place_fits : (timings : List Timing) (place : ℕ) → AreTimings timings → (slice_index_or timings place (record { delay = 0; limits = None })).delay < 2 ^ 60
 place_fits timings place h = elim (cases_lt place (length timings)) [

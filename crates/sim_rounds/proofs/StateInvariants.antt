@@ -19,7 +19,7 @@ use Rattle.fan_round.proofs.ListLaws.{each_from-at, length-each_from}
 use Rattle.fan_round.proofs.PendingLaws.{round_pending}
 use Rattle.fan_round.proofs.RoundLaws.{left_at}
 use Rattle.time_checks.specs.declared.latest.Latest.{Latest}
-use Rattle.sim_rounds.specs.Simulated.{machine_of, machine_since}
+use Rattle.sim_machine.specs.Simulated.{machine_of, machine_since}
 use Rattle.sim_rounds.proofs.MachineLaws.{later, length-outputs, one_driver, outputs_within}
 use Rattle.sim_rounds.proofs.PendingInvariants.{all_pending_later}
 use Rattle.sim_rounds.proofs.PendingTimes.{NoneAfter, none-left, none-placed_by}

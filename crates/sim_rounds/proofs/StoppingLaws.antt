@@ -33,7 +33,7 @@ use Rattle.sim_rounds.specs.CircuitChecks.{HaveSeen}
 use Rattle.sim_rounds.specs.Moments.{Fits, Moment, moment_of}
 use Rattle.sim_rounds.specs.MomentsSeen.{moment_seen}
 use Rattle.sim_rounds.specs.Pausing.{HasComeTo, HasEach, IsPause, IsTallyOf}
-use Rattle.sim_rounds.specs.Simulated.{machine_since}
+use Rattle.sim_machine.specs.Simulated.{machine_since}
 use Rattle.sim_rounds.specs.Stopping.{HasStopped, IsUnfinished, end_of}
 
 -- what is so of the times that were made, and of want of memory after them, is so of the end

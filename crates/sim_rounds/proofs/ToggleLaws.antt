@@ -6,7 +6,7 @@ use Rattle.sg_logic.specs.declared.values.Value.{Value}
 use Rattle.sg_logic.specs.declared.values.Value.TheVariants.{Zero, One, X, Z}
 use Rattle.sg_model.specs.Time.{toggle as toggle_of, toggles as toggles_of}
 use Rattle.sg_model.specs.Values.{value_at}
-use Rattle.sim_rounds.specs.Notifiers.{toggled_value, toggle_to}
+use Rattle.sim_machine.specs.Notifiers.{toggled_value, toggle_to}
 
 toggle_is : (v : Value) (net : ℕ) (rest : List (ℕ × Value)) → toggle_of v net rest ≡ toggle_to (toggled_value v) net rest
 toggle_is Zero net rest = refl

@@ -14,8 +14,8 @@ use Rattle.time_checks.specs.Adjusted.{adjusted_checks}
 use Rattle.time_checks.specs.Checking.{Kept, Stands}
 use Rattle.sim_times.specs.declared.told.Told.{Told}
 use Rattle.sim_times.specs.Told.{IsTold}
-use Rattle.sim_rounds.specs.Elements.{ElementsSeen}
-use Rattle.sim_rounds.specs.Simulated.{machine_of}
+use Rattle.sim_machine.specs.Elements.{ElementsSeen}
+use Rattle.sim_machine.specs.Simulated.{machine_of}
 
 -- its nets, elements and what they have pending are those of the state, where this was known of the events of its checks before
 pub record IsEngineAt (circuit : Circuit) (earlier : List Latest) (state : State) (nets : Nets) (last_told : Told) (work : WorkList) (parts : ElementsSeen) (pending : List (List (ℕ × Value))) (fan : List (List ℕ)) (driven : List ℕ) : Type 0 where

@@ -10,7 +10,7 @@ use Rattle.sg_model.specs.Values.{value_at}
 use Rattle.sg_model.specs.Pending.{last_value, IsPending}
 use Rattle.sg_model.specs.Machine.{Stamp}
 use Rattle.time_checks.specs.Falling.{AreBy}
-use Rattle.sim_rounds.specs.Simulated.{machine_of}
+use Rattle.sim_machine.specs.Simulated.{machine_of}
 use Rattle.sim_rounds.specs.Moments.{Moment, Pending, IsStampOf, computed_last, pending_of, stamp_at, state_of, udp_states}
 
 -- as many nets and checks, and what is pending is of the circuit's elements, and near

@@ -9,7 +9,7 @@ use Rattle.sg_model.specs.Run.{last_change, lasts}
 use Rattle.sim_times.specs.Runs.{changed_since, run_for, run_from}
 use Rattle.sim_rounds.specs.Moments.{Fits, Moment, moment_of, state_of}
 use Rattle.sim_rounds.specs.Setting.{setting_of}
-use Rattle.sim_rounds.specs.Simulated.{first_state}
+use Rattle.sim_machine.specs.Simulated.{first_state}
 use Rattle.sim_rounds.specs.Stopping.{origin_at, setting_since}
 
 -- it fits the circuit, and its state is that of the run

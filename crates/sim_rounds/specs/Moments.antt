@@ -17,7 +17,7 @@ use Rattle.time_checks.specs.declared.latest.Latest.{Latest}
 use Rattle.time_checks.specs.Adjusted.{adjusted_checks}
 use Rattle.time_checks.specs.Falling.{AreBy}
 use Rattle.time_checks.specs.Violations.{latest_events}
-use Rattle.sim_rounds.specs.Simulated.{first_state, first_value_of, machine_of, machine_since, run_of_circuit}
+use Rattle.sim_machine.specs.Simulated.{first_state, first_value_of, machine_of, machine_since, run_of_circuit}
 
 -- a transition that a driver has pending
 pub record Pending : Type 0 where

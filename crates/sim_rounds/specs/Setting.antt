@@ -2,7 +2,7 @@
 use Rattle.std.specs.Prelude.{ℕ}
 use Rattle.sg_circuit.specs.Circuit.{Circuit}
 use Rattle.sg_stimulus.specs.Stimulus.{Stimulus, sets_at}
-use Rattle.sim_rounds.specs.Simulated.{machine_of, first_state}
+use Rattle.sim_machine.specs.Simulated.{machine_of, first_state}
 use Rattle.sim_times.specs.Runs.{Setting}
 
 abbrev pub setting_of : Circuit → Stimulus → ℕ → Setting

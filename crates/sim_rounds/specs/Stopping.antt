@@ -12,7 +12,7 @@ use Rattle.sim_rounds.specs.declared.stops.Until.{Until}
 use Rattle.sim_rounds.specs.declared.stops.Until.TheVariants.{Ended, Paused}
 use Rattle.sim_rounds.specs.Moments.{Fits, Moment, moment_of, run_of_moment, state_of}
 use Rattle.sim_rounds.specs.MomentsSeen.{moment_seen}
-use Rattle.sim_rounds.specs.Simulated.{machine_since}
+use Rattle.sim_machine.specs.Simulated.{machine_since}
 
 -- a run that goes on from a moment
 abbrev pub setting_since : Circuit → Stimulus → (rounds : ℕ) → Moment → Setting

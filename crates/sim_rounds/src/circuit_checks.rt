@@ -10,7 +10,7 @@ ghost use Rattle.time_checks.specs.Seen.{violation_seen};
 ghost use Rattle.sim_rounds.specs.Engines.{AreChecksAt, AreChecksBy};
 ghost use Rattle.sim_rounds.specs.Moments.{Fits, snapshot_of};
 ghost use Rattle.sim_rounds.specs.MomentsSeen.{moment_seen};
-ghost use Rattle.sim_rounds.specs.Notifiers.{is_named, is_net, notifier_at, notifiers_of, toggle_to, toggled_value};
+ghost use Rattle.sim_machine.specs.Notifiers.{is_named, is_net, notifier_at, notifiers_of, toggle_to, toggled_value};
 
 use crate::moments::Moment;
 use fan_round::{WorkList, clear_work, mark_all};
@@ -205,7 +205,7 @@ impl Checks for CircuitChecks<'_> {
     ghost use Rattle.time_checks.specs.Violations.{latest_events, violations_since};
     ghost use Rattle.time_checks.proofs.QuietLaws.{stands-again};
     ghost use Rattle.sim_rounds.specs.CircuitChecks.{AreChecksOver, HaveSeen};
-    ghost use Rattle.sim_rounds.specs.Notifiers.{notifiers_of};
+    ghost use Rattle.sim_machine.specs.Notifiers.{notifiers_of};
 
     ghost violated = { λ c ss. violations_since c.checker.earlier c.checker.checks ss };
 

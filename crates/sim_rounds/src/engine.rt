@@ -6,11 +6,11 @@ ghost use Rattle.time_checks.specs.declared.latest.Latest.{Latest};
 ghost use Rattle.sim_rounds.specs.Engines.{AreChecksAt, IsEngineAt};
 
 use crate::circuit_checks::CircuitChecks;
-use crate::elements::CircuitElements;
 use fan_round::{Nets, WorkList};
 use pulse_list::Agenda;
 use sg_circuit::{FanOut, NetId};
 use sg_stimulus::Stimulus;
+use sim_machine::CircuitElements;
 use sim_times::{Simulation, Told};
 use std::alloc::Global;
 

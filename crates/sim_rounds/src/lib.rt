@@ -1,24 +1,18 @@
 //! The machine of a circuit, and its simulation in work that is in proportion to what changes.
 #![tactic(auto)]
 
-mod at_once;
 mod circuit_checks;
-mod computing;
-mod elements;
 mod engine;
 mod fitting;
 mod laws;
 mod moments;
-mod nets;
 mod pausing;
-mod placing;
 mod restoring;
 mod resumed;
 mod settling;
 mod sim;
 mod stops;
 
-pub use elements::CircuitElements;
 pub use fitting::fits;
 pub use laws::{circuit_is_lawful, moments_of_runs_fit};
 pub use moments::{LastChange, Moment, Pending};

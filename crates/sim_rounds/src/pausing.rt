@@ -13,7 +13,6 @@ ghost use Rattle.sim_rounds.specs.MomentsSeen.{change_seen, moment_seen, pending
 ghost use Rattle.sim_rounds.specs.Pausing.{change_kept, pending_by, HasComeTo, HasEach, IsPause};
 
 use crate::circuit_checks::CircuitChecks;
-use crate::elements::CircuitElements;
 use crate::moments::{LastChange, Moment, Pending};
 use crate::sim::{Finished, tally_of};
 use crate::stops::Until;
@@ -22,6 +21,7 @@ use pulse_list::Agenda;
 use sg_circuit::{Circuit, ElementKind, Parts};
 use sg_logic::Value;
 use sg_text::NoMemory;
+use sim_machine::CircuitElements;
 use sim_times::{SimEnd, Simulation};
 use std::alloc::Global;
 use time_checks::{Checker, Latest};

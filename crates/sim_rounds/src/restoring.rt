@@ -3,16 +3,17 @@ ghost use Rattle.std.specs.Prelude.{◌≡◌, ℕ, ◌<◌, ◌^◌, [], All, I
 ghost use Rattle.sg_model.specs.Agenda.{Rises, list_at};
 ghost use Rattle.sg_model.specs.Values.{value_at};
 ghost use Rattle.fan_round.specs.Nets.{stamp_seen, AreNets};
-ghost use Rattle.sim_rounds.specs.Moments.{pending_of};
-ghost use Rattle.sim_rounds.specs.MomentsSeen.{change_seen, pending_seen};
+ghost use Rattle.sim_rounds.specs.Moments.{Fits, pending_of, state_of};
+ghost use Rattle.sim_rounds.specs.MomentsSeen.{change_seen, moment_seen, pending_seen};
 ghost use Rattle.sim_rounds.specs.Restored.{with_values};
 
 use crate::moments::{LastChange, Moment, Pending};
 use fan_round::{Nets, Stamp};
 use pulse_list::Agenda;
-use sg_circuit::Element;
+use sg_circuit::{Circuit, Element};
 use sg_logic::Value;
 use sg_text::NoMemory;
+use sim_machine::CircuitElements;
 use std::alloc::Global;
 
 // A net's last change.
@@ -83,9 +84,9 @@ fn put_values(values: &mut [Value], pending: &[Pending])
     }
 }
 
-/// The value that each element computed last: that with which its pending transitions end, or else that of the net that
-/// it drives.
-pub fn last_values(
+// The value that each element computed last: that with which its pending transitions end, or else that of the net that
+// it drives.
+fn last_values(
     alloc: Global,
     elements: &[Element],
     nets: &[Value],
@@ -113,4 +114,18 @@ pub fn add_pending<A: Agenda>(agenda: &mut A, pending: &[Pending]) -> Result<(),
         agenda.append(transition.driver, transition.time, transition.value);
     }
     Ok(())
+}
+
+/// The elements of a circuit as they are after the time of a moment that fits it. Takes as much memory as `CircuitElements::new`.
+pub fn elements_of<'a>(
+    alloc: Global,
+    circuit: &'a Circuit,
+    moment: &'a Moment,
+) -> Result<CircuitElements<'a>, NoMemory>
+    requires { Fits circuit.now (moment_seen moment.now) }
+    ensures { IfOk result (λ g. g ≡ record { circuit = circuit.now; earlier = moment.now.latest.items; states = (state_of circuit.now (moment_seen moment.now)).states }) }
+{
+    let parts = circuit.parts();
+    let states = last_values(alloc, &parts.elements, &moment.nets, &moment.pending)?;
+    CircuitElements::of_states(alloc, circuit, &moment.latest, states)
 }

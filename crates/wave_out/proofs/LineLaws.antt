@@ -6,7 +6,8 @@ use Rattle.std.proofs.lemmas.List.{length-append}
 use Rattle.std.proofs.lemmas.Option.{get_or_from_slice_get}
 use Rattle.sg_logic.specs.declared.values.Value.{Value}
 use Rattle.sg_logic.specs.declared.values.Value.TheVariants.{X}
-use Rattle.wave_out.specs.Vcd.{code, value_letter, value_text, values_at}
+use Rattle.wave_out.specs.Lines.{bits_line}
+use Rattle.wave_out.specs.Vcd.{code, value_letter}
 use Rattle.wave_out.proofs.CodeLaws.{code_large, code_small}
 
 -- a code of a number below 2^32 has five bytes at most
@@ -32,10 +33,10 @@ end_length k text l e =
     let b : length (code k) ≤ 5 = length_code k l in
     omega arith
 
--- the value of a variable of one bit
-pub narrow_value : (bits : List ℕ) (values : List Value) (net letter : ℕ) (v : Value) → bits ≡ net ∷ [] → slice_get values net ≡ Some v → letter ≡ value_letter v → letter ∷ [] ≡ value_text (values_at bits values)
-narrow_value bits values net letter v e got is =
-    ap (λ l. l ∷ []) (is ∙ ap value_letter (sym (get_or_from_slice_get values net v X got))) ∙ ap (λ ns. value_text (values_at ns values)) (sym e)
+-- the line of a variable of one bit
+pub narrow_line : (bits : List ℕ) (values : List Value) (net k : ℕ) (end : List ℕ) (v : Value) → bits ≡ net ∷ [] → slice_get values net ≡ Some v → end ≡ code k ++ 10 ∷ [] → value_letter v ∷ end ≡ bits_line values k bits
+narrow_line bits values net k end v e got ended =
+    ap (λ t. value_letter v ∷ t) ended ∙ ap (λ w. value_letter w ∷ (code k ++ 10 ∷ [])) (sym (get_or_from_slice_get values net v X got)) ∙ ap (λ ns. bits_line values k ns) (sym e)
 
 pub narrow_within : (bits : List (List ℕ)) (k net n : ℕ) → All (λ bs. All (λ b. b < n) bs) bits → k < length bits → get_or bits k [] ≡ net ∷ [] → net < n
 narrow_within bits k net n h l e = let one : All (λ b. b < n) (net ∷ []) = subst (λ bs. All (λ b. b < n) bs) e (h k [] l) in one 0 0 (omega arith)

@@ -7,6 +7,7 @@ use Rattle.wave_out.specs.declared.lines.Line.{Line}
 pub record IsLine (k : ℕ) (bits : List ℕ) (l : Line) : Type 0 where
   pub end : take l.length l.end ≡ code k ++ 10 ∷ []
   pub fits : l.length ≤ length l.end
+  pub six : length l.end ≡ 6
   pub net : l.wide ≡ false → bits ≡ l.net ∷ []
   pub wide : l.wide ≡ not (length bits == 1)
 

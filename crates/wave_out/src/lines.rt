@@ -1,8 +1,9 @@
 // The lines of variables, with ready codes.
-ghost use Rattle.std.specs.Prelude.{◌≡◌, ◌++◌, ◌∷◌, [], ◌<◌, ◌≤◌, ◌==◌, All, IfOk, OnOk, codes, false, length, map, not, slice_index_or, take};
+ghost use Rattle.std.specs.Prelude.{◌≡◌, ◌+◌, ◌++◌, ◌∷◌, [], ◌<◌, ◌≤◌, ◌==◌, All, IfOk, OnOk, codes, false, length, map, not, slice_index_or, take, vec_len};
+ghost use Rattle.std.specs.Vec.{vec_capacity};
 ghost use Rattle.wave_out.specs.Lines.{bits_line};
 ghost use Rattle.wave_out.specs.Ready.{AreLines, IsLine};
-ghost use Rattle.wave_out.specs.Vcd.{code, value_letter, value_text, values_at};
+ghost use Rattle.wave_out.specs.Vcd.{code, value_letter, values_at};
 
 use crate::words::push_code;
 use cond_expr::Nets;
@@ -56,6 +57,7 @@ fn line_of(end: &[u8], bits: &[NetId]) -> Line
     requires { length end.now ≤ 6 }
     ensures end { take result.length result.end ≡ end.now }
     ensures fits { result.length ≤ length result.end }
+    ensures six { length result.end ≡ 6 }
     ensures net { result.wide ≡ false → bits.now ≡ result.net ∷ [] }
     ensures wide { result.wide ≡ not (length bits.now == 1) }
 {
@@ -113,24 +115,25 @@ fn push_vector<N: Nets>(text: &mut Vec<u8>, bits: &[NetId], nets: &N) -> Result<
     Ok(())
 }
 
-// The value of the k-th variable, whose line this is.
-fn push_bits<N: Nets>(
-    text: &mut Vec<u8>,
-    k: u32,
-    line: &Line,
-    variables: &FanOut,
-    nets: &N,
-) -> Result<(), AllocError>
-    requires k { k < length variables.now }
-    requires line { IsLine k (slice_index_or variables.now k []) line.now }
-    requires variables { All (λ bits. All (λ n. n < length (N.values nets.now)) bits) variables.now }
-    ensures { OnOk result (text.new.items ≡ text.old.items ++ value_text (values_at (slice_index_or variables.now k []) (N.values nets.now))) }
+// These bytes, for which there is room.
+fn put_bytes(text: &mut Vec<u8>, bytes: &[u8])
+    requires { vec_len text.old + length bytes.now ≤ vec_capacity text.old }
+    ensures { text.new.items ≡ text.old.items ++ bytes.now }
 {
-    if line.wide {
-        push_vector(text, variables.of(k), nets)?;
-        return Ok(());
+    for byte in bytes {
+        text.push_reserved(*byte);
     }
-    text.push(letter_of(nets.at(line.net)))?;
+}
+
+// The line of a variable of one bit, whose value this is: seven bytes at most, for which room is made once.
+fn push_narrow(text: &mut Vec<u8>, value: Value, line: &Line) -> Result<(), AllocError>
+    requires fits { line.now.length ≤ length line.now.end }
+    requires six { length line.now.end ≡ 6 }
+    ensures { OnOk result (text.new.items ≡ text.old.items ++ value_letter value ∷ take line.now.length line.now.end) }
+{
+    text.try_reserve(7)?;
+    text.push_reserved(letter_of(value));
+    put_bytes(text, &line.end[..line.length as usize]);
     Ok(())
 }
 
@@ -139,11 +142,7 @@ fn push_end(text: &mut Vec<u8>, bytes: &[u8], count: u8) -> Result<(), AllocErro
     requires { count ≤ length bytes.now }
     ensures { OnOk result (text.new.items ≡ text.old.items ++ take count bytes.now) }
 {
-    let end = &bytes[..count as usize];
-    for byte in end {
-        text.push(*byte)?;
-    }
-    Ok(())
+    text.extend_from_slice(&bytes[..count as usize])
 }
 
 /// Adds the line of the k-th variable.
@@ -160,6 +159,9 @@ pub fn push_line<N: Nets>(
     ensures { OnOk result (text.new.items ≡ text.old.items ++ bits_line (N.values nets.now) k (slice_index_or variables.now k [])) }
 {
     let line = &lines[k as usize];
-    push_bits(text, k, line, variables, nets)?;
+    if !line.wide {
+        return push_narrow(text, nets.at(line.net), line);
+    }
+    push_vector(text, variables.of(k), nets)?;
     push_end(text, &line.end, line.length)
 }

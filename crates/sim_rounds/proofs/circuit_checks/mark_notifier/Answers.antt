@@ -1,4 +1,4 @@
-use Rattle.sim_rounds.specs.Notifiers.{notifier_at}
+use Rattle.sim_machine.specs.Notifiers.{notifier_at}
 use Rattle.sim_rounds.proofs.NotifierLaws.{notifier_within, marks_notifier, marks_none}
 use Rattle.std.specs.Prelude.{length}
 use Rattle.sim_rounds.proofs.circuit_checks.mark_notifier.Goals as goal

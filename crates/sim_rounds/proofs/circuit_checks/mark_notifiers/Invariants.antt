@@ -3,7 +3,7 @@ use Rattle.std.proofs.Common.{◌≡◌, ℕ, ◌<◌, ◌≤◌, take}
 use Rattle.std.specs.Vec.{vec_capacity}
 use Rattle.fan_round.specs.Work.{mark_at, AreMarked}
 use Rattle.time_checks.specs.Seen.{violation_seen}
-use Rattle.sim_rounds.specs.Notifiers.{is_named}
+use Rattle.sim_machine.specs.Notifiers.{is_named}
 use Rattle.sim_rounds.proofs.circuit_checks.mark_notifiers.Given as goal
 
 abbrev pub invariant-loop-violation : goal.invariant-loop-violation

@@ -7,7 +7,7 @@ use Rattle.sg_model.specs.Time.{toggles as toggles_of}
 use Rattle.fan_round.proofs.WorkLaws.{marked-start}
 use Rattle.fan_round.specs.Work.{AreMarked}
 use Rattle.time_checks.specs.Seen.{violation_seen}
-use Rattle.sim_rounds.specs.Notifiers.{notifiers_of}
+use Rattle.sim_machine.specs.Notifiers.{notifiers_of}
 use Rattle.sim_rounds.proofs.NotifierLaws.{named_within}
 use Rattle.sim_rounds.proofs.circuit_checks.toggle_notifiers.Goals as goal
 

@@ -1,8 +1,8 @@
 use Rattle.std.proofs.Common.{◌≡◌, ◌∙◌, below_more, sym}
 use Rattle.sg_circuit.specs.Seen.{circuit_seen}
 use Rattle.sg_model.specs.Values.{value_at}
-use Rattle.sim_rounds.specs.Simulated.{machine_of}
-use Rattle.sim_rounds.proofs.ElementLaws.{inputs_among, has_room}
+use Rattle.sim_machine.specs.Simulated.{machine_of}
+use Rattle.sim_machine.proofs.ElementLaws.{inputs_among, has_room}
 use Rattle.sim_rounds.proofs.SettlingLaws.{item_of, agrees, disagrees, still_room}
 use Rattle.sim_rounds.proofs.settling.agree.Goals as goal
 

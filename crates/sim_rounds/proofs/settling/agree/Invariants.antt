@@ -2,8 +2,8 @@ use Rattle.std.proofs.Common.{◌≡◌, ℕ, ◌<◌, All, length}
 use Rattle.sg_circuit.specs.Circuit.{Element}
 use Rattle.sg_circuit.specs.Seen.{circuit_seen}
 use Rattle.sg_model.specs.Values.{value_at}
-use Rattle.sim_rounds.specs.Inputs.{HasRoom}
-use Rattle.sim_rounds.specs.Simulated.{machine_of}
+use Rattle.sim_machine.specs.Inputs.{HasRoom}
+use Rattle.sim_machine.specs.Simulated.{machine_of}
 use Rattle.sim_rounds.proofs.settling.agree.Given as goal
 
 abbrev pub invariant-loop-number : goal.invariant-loop-number

@@ -1,8 +1,8 @@
 use Rattle.std.proofs.Common.{◌∙◌, refl, subst, sym}
 use Rattle.std.proofs.lemmas.List.{length-map}
 use Rattle.sg_circuit.specs.Seen.{circuit_seen, element_seen}
-use Rattle.sim_rounds.specs.Elements.{AreTables}
-use Rattle.sim_rounds.proofs.ElementLaws.{all_have_room}
+use Rattle.sim_machine.specs.Elements.{AreTables}
+use Rattle.sim_machine.proofs.ElementLaws.{all_have_room}
 use Rattle.sim_rounds.proofs.settling.are_computed.Goals as goal
 
 pub agree-requires-clause-evaluable : goal.agree-requires-clause-evaluable

@@ -12,7 +12,7 @@ use Rattle.time_checks.specs.declared.violations.Violation.{Violation}
 use Rattle.time_checks.specs.Checking.{Kept, Sees}
 use Rattle.time_checks.specs.Seen.{violation_seen}
 use Rattle.time_checks.proofs.TouchLaws.{listed-within}
-use Rattle.sim_rounds.specs.Notifiers.{notifiers_of}
+use Rattle.sim_machine.specs.Notifiers.{notifiers_of}
 use Rattle.sim_rounds.proofs.CircuitChecksLaws.{checks_over, found_behind, latest_still, notifiers_still, violated_still}
 use Rattle.sim_rounds.proofs.SeenLaws.{seen_by}
 use Rattle.sim_times.proofs.SimulationLaws.{begun_still}

@@ -13,7 +13,7 @@ use Rattle.sim_times.specs.Runs.{HasEndedFrom}
 use Rattle.sim_times.specs.Simulations.{kept_of}
 use Rattle.sim_times.specs.Times.{Kept}
 use Rattle.sim_rounds.specs.Engines.{AreChecksAt, IsEngineAt}
-use Rattle.sim_rounds.specs.Simulated.{machine_since}
+use Rattle.sim_machine.specs.Simulated.{machine_since}
 use Rattle.sim_rounds.proofs.EngineLaws.{engine_ready, engine_stands}
 use Rattle.sim_rounds.proofs.MachineLaws.{lawful_since}
 use Rattle.sim_rounds.specs.Moments.{Moment, snapshot_of, state_of}

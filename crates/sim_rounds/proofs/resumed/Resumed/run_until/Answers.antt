@@ -13,7 +13,7 @@ use Rattle.sim_rounds.specs.CircuitChecks.{HaveSeen}
 use Rattle.sim_rounds.specs.Engines.{AreChecksAt, IsEngineAt}
 use Rattle.sim_rounds.specs.Moments.{Fits, Moment, moment_of, snapshot_of, state_of}
 use Rattle.sim_rounds.specs.MomentsSeen.{moment_seen}
-use Rattle.sim_rounds.specs.Simulated.{machine_since}
+use Rattle.sim_machine.specs.Simulated.{machine_since}
 use Rattle.sim_rounds.specs.Stopping.{origin_at, setting_since}
 use Rattle.sim_rounds.proofs.EngineLaws.{engine_ready, engine_stands}
 use Rattle.sim_rounds.proofs.MachineLaws.{lawful_since}

@@ -2,11 +2,11 @@ use Rattle.std.specs.Prelude.{◌≡◌, [], length, map, replicate}
 use Rattle.std.proofs.Common.{◌∙◌, sym, ap, subst, refl}
 use Rattle.sg_circuit.specs.Circuit.{Circuit}
 use Rattle.sg_circuit.specs.Seen.{circuit_seen, element_seen}
-use Rattle.sim_rounds.specs.Simulated.{first_value_of}
+use Rattle.sim_machine.specs.Simulated.{first_value_of}
 use Rattle.fan_round.specs.Nets.{stamp_seen}
 use Rattle.fan_round.specs.States.{IsIdle}
 use Rattle.sim_times.specs.Told.{IsTold}
-use Rattle.sim_rounds.specs.Simulated.{first_state}
+use Rattle.sim_machine.specs.Simulated.{first_state}
 use Rattle.sim_rounds.proofs.SimLaws.{outputs_seen, no_lists, no_stamps, count_seen}
 use Rattle.sim_rounds.proofs.sim.Sim.new.Goals as goal
 

@@ -13,11 +13,11 @@ use Rattle.sim_times.specs.Runs.{HasEndedFrom, origin_of}
 use Rattle.sim_times.specs.Simulations.{kept_of}
 use Rattle.sim_times.specs.Times.{Kept}
 use Rattle.sim_rounds.specs.Engines.{AreChecksAt, IsEngineAt}
-use Rattle.sim_rounds.specs.Simulated.{machine_since}
+use Rattle.sim_machine.specs.Simulated.{machine_since}
 use Rattle.sim_rounds.proofs.EngineLaws.{engine_ready, engine_stands}
 use Rattle.sim_rounds.proofs.MachineLaws.{lawful_since}
 use Rattle.sim_rounds.specs.Setting.{setting_of}
-use Rattle.sim_rounds.specs.Simulated.{first_state}
+use Rattle.sim_machine.specs.Simulated.{first_state}
 use Rattle.sim_rounds.proofs.SimLaws.{begins_first, can_begin}
 use Rattle.sim_rounds.proofs.sim.Sim.run.Goals as goal
 

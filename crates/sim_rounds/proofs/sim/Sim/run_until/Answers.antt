@@ -11,7 +11,7 @@ use Rattle.sim_times.specs.Times.{Kept, count_shown}
 use Rattle.sim_rounds.specs.CircuitChecks.{HaveSeen}
 use Rattle.sim_rounds.specs.Engines.{AreChecksAt, IsEngineAt}
 use Rattle.sim_rounds.specs.Setting.{setting_of}
-use Rattle.sim_rounds.specs.Simulated.{first_state, machine_since}
+use Rattle.sim_machine.specs.Simulated.{first_state, machine_since}
 use Rattle.sim_rounds.proofs.EngineLaws.{engine_ready, engine_stands}
 use Rattle.sim_rounds.proofs.MachineLaws.{lawful_since}
 use Rattle.sim_rounds.proofs.SimLaws.{begins_first, can_begin}
