@@ -1,0 +1,4 @@
+use Rattle.why_top.proofs.answers.parts_answer.Goals as goal
+
+pub returns : goal.returns
+returns c = ?
