@@ -1,7 +1,9 @@
 -- What is told of a run, by the run as the code has it.
 use Rattle.std.proofs.Common.{◌≡◌, ◌∙◌, ◌<◌, ◌≤◌, ◌^◌, refl, sym, ap, subst, ℕ, List, ◌++◌, length, map}
-use Rattle.std.specs.Prelude.{All, IfOk, Option, Some, None, Result, Ok, Err, codes, slice_get}
+use Rattle.std.specs.Prelude.{All, IfOk, Option, Some, None, Result, Ok, Err, codes, slice_get, slice_index_or}
+use Rattle.std.proofs.lemmas.Option.{slice_get-get_or, slice_get-map}
 use Rattle.std.specs.List.{AllPairs}
+use Rattle.std.specs.Option.{option_map}
 use Rattle.sg_circuit.specs.Circuit.{Circuit}
 use Rattle.sim_rounds.specs.Simulated.{first_state}
 use Rattle.wave_out.specs.Texts.{line}
@@ -31,17 +33,23 @@ chain_told c run w vs net time events text e f h = record {
   is = refl;
 }
 
-pub violation_told : (c : Circuit) (run : code_run.Watched) (w : Waveform) (vs : List code_violation.Violation) (place : ℕ) (v : code_violation.Violation) (text : List ℕ) → w ≡ waveform_of run → vs ≡ run.violations.items
-    → slice_get (map (λ x. violation_seen x) run.violations.items) place ≡ Some (violation_seen v) → IsToldViolation c w (map (λ x. violation_seen x) vs) (violation_seen v) text
-    → TellsViolation c (run_seen run) place (told status.Clean text)
-violation_told c run w vs place v text e f at h = record {
-  violation = violation_seen v;
-  at = at;
-  text = text;
-  parts = subst (λ x. IsToldViolation c x (map (λ y. violation_seen y) run.violations.items) (violation_seen v) text) e
-      (subst (λ l. IsToldViolation c w (map (λ y. violation_seen y) l) (violation_seen v) text) f h);
-  is = refl;
-}
+-- the violation of a place
+at_place : (vs items : List code_violation.Violation) (place : ℕ) (d : code_violation.Violation) → vs ≡ items → place < length items
+    → slice_get (map (λ x. violation_seen x) items) place ≡ Some (violation_seen (slice_index_or vs place d))
+at_place vs items place d e l =
+    slice_get-map (λ x. violation_seen x) items place ∙ ap (option_map (λ x. violation_seen x)) (slice_get-get_or items place d l) ∙ ap (λ (xs : List code_violation.Violation). Some (violation_seen (slice_index_or xs place d))) (sym e)
+
+pub violation_told : (c : Circuit) (run : code_run.Watched) (w : Waveform) (vs : List code_violation.Violation) (place : ℕ) (d : code_violation.Violation) (text : List ℕ) → w ≡ waveform_of run → vs ≡ run.violations.items
+    → place < length run.violations.items → IsToldViolation c w (map (λ x. violation_seen x) vs) (violation_seen (slice_index_or vs place d)) text → TellsViolation c (run_seen run) place (told status.Clean text)
+violation_told c run w vs place d text e f l h =
+    let v = violation_seen (slice_index_or vs place d) in
+    record {
+      violation = v;
+      at = at_place vs run.violations.items place d f l;
+      text = text;
+      parts = subst (λ x. IsToldViolation c x (map (λ y. violation_seen y) run.violations.items) v text) e (subst (λ (xs : List code_violation.Violation). IsToldViolation c w (map (λ y. violation_seen y) xs) v text) f h);
+      is = refl;
+    }
 
 -- what is so of an answer, if there was memory for it
 module _ {E : Type 0} where

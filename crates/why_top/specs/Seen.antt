@@ -37,8 +37,8 @@ abbrev pub run_seen : code_run.Watched → Run
 run_seen r = record { waveform = waveform_of r; violations = map (λ v. violation_seen v) r.violations.items; spent = found_in r.spent }
 
 -- a run whose events are those of a circuit's nets, in order
-pub record IsInOrder (nets : ℕ) (w : Waveform) : Type 0 where
-  pub values : length w.first ≡ nets
+pub record IsInOrder (width : ℕ) (w : Waveform) : Type 0 where
+  pub values : length w.first ≡ width
   pub few : length w.first < 2 ^ 32
   pub nets : All (λ e. e.net < length w.first) w.events
   pub times : All (λ e. e.time < 2 ^ 60) w.events

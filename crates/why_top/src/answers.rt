@@ -178,7 +178,7 @@ pub fn answer_in(
 ) -> Result<Answer, NoMemory>
     requires rounds { 0 < rounds }
     requires applied { IsApplied task.now.circuit (stimulus_seen task.now.input) }
-    requires time { IsSoon question.entry }
+    requires time { IsSoon question }
     ensures { IfOk result (λ a. IsAnswerIn (task_seen task.now) rounds (question_seen question.entry) (answer_seen a)) }
 {
     match question {

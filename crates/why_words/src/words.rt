@@ -72,7 +72,7 @@ fn asked_from<'a>(alloc: Global, arguments: &[Argument<'a>]) -> Result<Option<As
 /// What the words of the command line ask for, or None where they are refused. The program's own name isn't among the
 /// words. Takes memory.
 pub fn read_words<'a>(alloc: Global, words: &'a [String]) -> Result<Option<Asked<'a>>, NoMemory>
-    ensures asked { IfOk result (λ a. option_map (λ x. asked_seen x) a ≡ asked_of (map string_bytes words.now)) }
+    ensures { IfOk result (λ a. option_map (λ x. asked_seen x) a ≡ asked_of (map string_bytes words.now)) }
 {
     match read_arguments(alloc, words)? {
         Some(arguments) => asked_from(alloc, &arguments),
