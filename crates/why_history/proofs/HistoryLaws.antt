@@ -67,13 +67,13 @@ module _ {W S : Type 0} (kept : W → List Event) (broken : W → S → List Cal
   kept_are found changed taken (Err NoMemory) spent h e = absurd e
 
   pub spent_is : (found : List Violation) (changed taken : ℕ) (end : Result (Unit {0}) SimEnd) (spent : Option code_spent.Spent) → HasEnded Stands broken w w' a b s found changed taken end → IsEnd spent end → found_in spent ≡ (run_for s (suc s.end)).spent
-  spent_is found changed taken (Ok u) spent (times, _) e = ap found_in e ∙ sym times.unspent
-  spent_is found changed taken (Err (RoundsSpent time net)) spent (some, _) e = ap found_in e ∙ sym some
+  spent_is found changed taken (Ok u) spent (times, _, _) e = ap found_in e ∙ sym times.unspent
+  spent_is found changed taken (Err (RoundsSpent time net)) spent (some, _, _, _) e = ap found_in e ∙ sym some
   spent_is found changed taken (Err WatchFailed) spent h e = absurd e
   spent_is found changed taken (Err NoMemory) spent h e = absurd e
 
   pub violations_are : (found : List Violation) (changed taken : ℕ) (end : Result (Unit {0}) SimEnd) (spent : Option code_spent.Spent) → HasEnded Stands broken w w' a b s found changed taken end → IsEnd spent end → found ≡ (run_for s (suc s.end)).run.violations
-  violations_are found changed taken (Ok u) spent (times, _) e = times.violations
-  violations_are found changed taken (Err (RoundsSpent time net)) spent (some, times, _) e = times.violations ∙ ap (λ (r : Run). r.violations) (spent_snapshots s (time, Some net) some)
+  violations_are found changed taken (Ok u) spent (times, _, _) e = times.violations
+  violations_are found changed taken (Err (RoundsSpent time net)) spent (some, times, _, _) e = times.violations ∙ ap (λ (r : Run). r.violations) (spent_snapshots s (time, Some net) some)
   violations_are found changed taken (Err WatchFailed) spent h e = absurd e
   violations_are found changed taken (Err NoMemory) spent h e = absurd e

@@ -1,5 +1,5 @@
 -- The events of a run: by times that don't fall, before its end, and of nets that there are.
-use Rattle.std.specs.Prelude.{◌≡◌, ℕ, zero, suc, ◌+◌, ◌<◌, ◌≤◌, ◌==◌, Bool, true, false, not, if◌then◌else◌, All, List, [], ◌∷◌, ◌++◌, length, map, flat_map, ◌⊎◌, refl}
+use Rattle.std.specs.Prelude.{◌≡◌, ℕ, zero, suc, ◌+◌, ◌^◌, ◌<◌, ◌≤◌, ◌==◌, Bool, true, false, not, if◌then◌else◌, All, List, [], ◌∷◌, ◌++◌, length, map, flat_map, ◌⊎◌, refl}
 use Rattle.std.specs.List.{AllByRecursion, AllPairs}
 use Rattle.std.proofs.Common.{sym, ◌∙◌, ap, subst, arith, append-nil, inl, inr}
 use Rattle.std.proofs.lemmas.Grind.{flat_map-append}
@@ -182,7 +182,7 @@ pairs-of (e ∷ es) h (suc i) (suc j) d l m = pairs-of es h.1 i j d (omega (arit
 start_long : (first : State) → IsLong (length first.values) (start_of first)
 start_long first = record { values = refl; snapshots = λ i d l. absurd (omega (arith, l)) }
 
-record InOrder (s : Setting) (found : List Event) : Type 0 where
+pub record InOrder (s : Setting) (found : List Event) : Type 0 where
   pub nets : All (λ e. e.net < length s.first.values) found
   pub times : All (λ e. e.time ≤ s.end) found
   pub rise : AllPairs (λ d e. d.time ≤ e.time) found
@@ -200,3 +200,13 @@ in-order s found are =
       times = each-of (λ (e : Event). e.time ≤ s.end) found (each-weaker (λ (e : Event). e.time < 0 + suc s.end) (λ (e : Event). e.time ≤ s.end) found (λ e l. omega (arith, l)) k.times_in);
       rise = pairs-of found k.rise;
     }
+
+-- of nets with these values before time 0, before a bound, and by times that don't fall
+pub nets_in : (s : Setting) (first : List Value) (found : List Event) → first ≡ s.first.values → AreEvents s.first.values (run_for s (suc s.end)) found → All (λ e. e.net < length first) found
+nets_in s first found is are = subst (λ vs. All (λ (e : Event). e.net < length vs) found) (sym is) (in-order s found are).nets
+
+pub times_in : (s : Setting) (found : List Event) → s.end < 2 ^ 60 → AreEvents s.first.values (run_for s (suc s.end)) found → All (λ e. e.time < 2 ^ 60) found
+times_in s found fits are k d l = let m = (in-order s found are).times k d l in omega (arith, m, fits)
+
+pub rise_in : (s : Setting) (found : List Event) → AreEvents s.first.values (run_for s (suc s.end)) found → AllPairs (λ d e. d.time ≤ e.time) found
+rise_in s found are = (in-order s found are).rise

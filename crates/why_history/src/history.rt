@@ -7,7 +7,7 @@ use cond_expr::Nets;
 use sg_circuit::Circuit;
 use sg_io::{Shelf, ShelfError};
 use sim_times::Watch;
-use std::alloc::Global;
+use std::alloc::{AllocError, Global};
 use time_checks::Change;
 use why_causes::Event;
 
@@ -40,7 +40,7 @@ impl<'a> History<'a> {
     }
 }
 
-fn push_events(events: &mut Vec<Event>, time: u64, changed: &[Change]) -> Result<(), ShelfError>
+fn push_events(events: &mut Vec<Event>, time: u64, changed: &[Change]) -> Result<(), AllocError>
     ensures { OnOk result (events.new.items ≡ events.old.items ++ events_at time (map net_change changed.now)) }
 {
     for change in changed {
@@ -79,6 +79,7 @@ impl<'a, S: Shelf> Watch<S> for History<'a> {
         changed: &[Change],
         _: &N,
     ) -> Result<(), ShelfError> {
-        push_events(&mut self.events, time, changed)
+        push_events(&mut self.events, time, changed)?;
+        Ok(())
     }
 }

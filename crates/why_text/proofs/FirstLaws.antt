@@ -1,8 +1,8 @@
 -- The first of a list that passes a test, or of which something is made, step by step.
-use Rattle.std.specs.Prelude.{◌≡◌, ℕ, suc, ◌+◌, ◌<◌, List, [], ◌∷◌, Bool, true, false, Option, Some, None, cond, cons_option, drop, filter_map, find, length, map, slice_get, refl}
-use Rattle.std.specs.List.{position_from}
+use Rattle.std.specs.Prelude.{◌≡◌, ℕ, suc, ◌+◌, ◌-◌, ◌<◌, ◌≤◌, List, [], ◌∷◌, Bool, true, false, Option, Some, None, cond, drop, filter_map, find, length, map, slice_get, refl}
+use Rattle.std.specs.List.{cons_option, position_from, range_with_len}
 use Rattle.std.specs.Option.{option_or}
-use Rattle.std.proofs.Common.{sym, ◌∙◌, ap, arith, get_or}
+use Rattle.std.proofs.Common.{sym, ◌∙◌, ap, subst, arith, get_or}
 use Rattle.std.proofs.lemmas.List.{at_drop_more}
 
 -- a position that is found is one of the list
@@ -53,3 +53,10 @@ none_found t f a (x ∷ xs) e = by (t (f x)) refl (none_found t f (a + 1) xs)
     by : (b : Bool) → t (f x) ≡ b → (position_from (λ y. t (f y)) (a + 1) xs ≡ None → find t (map f xs) ≡ None) → find t (map f (x ∷ xs)) ≡ None
     by true h rest = let g : Some a ≡ None = rw h at e in cc
     by false h rest = let g : position_from (λ y. t (f y)) (a + 1) xs ≡ None = rw h at e in rw h (rest g)
+
+-- of numbers that are left one that doesn't pass
+pub none_at : (t : ℕ → Bool) (k n : ℕ) (whole : Option ℕ) → k < n → (k ≤ n) × (whole ≡ find t (range_with_len k (n - k))) → t k ≡ false
+    → (k + 1 ≤ n) × (whole ≡ find t (range_with_len (k + 1) (n - (k + 1))))
+none_at t k n whole l h fails =
+    let e : n - k ≡ suc (n - (k + 1)) = omega (arith, l) in
+    (omega (arith, l), h.1 ∙ (ap (λ m. find t (range_with_len k m)) e ∙ ap (λ b. cond b (Some k) (find t (range_with_len (k + 1) (n - (k + 1))))) fails))

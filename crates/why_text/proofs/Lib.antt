@@ -3,3 +3,4 @@ pub mod FirstLaws
 pub mod PinLaws
 pub mod LineLaws
 pub mod ToggleLaws
+pub mod ViolationLaws

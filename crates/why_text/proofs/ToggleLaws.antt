@@ -1,5 +1,5 @@
 -- The line of a notifier's event, by the place of the violation that toggled it.
-use Rattle.std.specs.Prelude.{◌≡◌, ℕ, ◌+◌, List, ◌++◌, Option, Some, None, codes, find, map, position}
+use Rattle.std.specs.Prelude.{◌≡◌, ℕ, ◌+◌, List, [], ◌∷◌, ◌++◌, Option, Some, None, codes, find, map, position}
 use Rattle.std.proofs.Common.{sym, ◌∙◌, ap, subst, arith, get_or}
 use Rattle.std.proofs.lemmas.List.{append_assoc}
 use Rattle.std.proofs.lemmas.Iterator.Adapters.{position_from-zero}
@@ -28,5 +28,10 @@ toggled_by c e vs place d old front text new is f t n =
     ∙ (append_assoc old (event_front c e ++ codes " toggled by ") v
     ∙ ap (λ o. old ++ toggled_line c e o) (sym (found c e vs place d is)))))
 
-pub toggled_by_none : (c : Circuit) (e : Event) (vs : List Violation) → None ≡ position (λ v. toggles c e (violation_seen v)) vs → find (toggles c e) (map (λ v. violation_seen v) vs) ≡ None
-toggled_by_none c e vs is = none_found (toggles c e) (λ v. violation_seen v) 0 vs (sym (is ∙ position_from-zero (λ v. toggles c e (violation_seen v)) vs))
+pub toggled_by_none : (c : Circuit) (e : Event) (vs : List Violation) (old front new : List ℕ) → None ≡ position (λ v. toggles c e (violation_seen v)) vs
+    → front ≡ old ++ event_front c e → new ≡ front ++ codes " toggled\n" → new ≡ old ++ toggled_line c e (find (toggles c e) (map (λ v. violation_seen v) vs))
+toggled_by_none c e vs old front new is f n =
+    let none = none_found (toggles c e) (λ v. violation_seen v) 0 vs (sym (is ∙ position_from-zero (λ v. toggles c e (violation_seen v)) vs)) in
+    n ∙ (ap (λ t. t ++ codes " toggled\n") f ∙ (append_assoc old (event_front c e) (codes " toggled\n")
+    ∙ (ap (λ t. old ++ t) (sym (append_assoc (event_front c e) (codes " toggled") (10 ∷ [])))
+    ∙ ap (λ o. old ++ toggled_line c e o) (sym none))))

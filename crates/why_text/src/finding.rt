@@ -23,12 +23,18 @@ fn is_net_called(
     Ok(text.as_slice() == name)
 }
 
+fn count_nets(circuit: &Circuit) -> u32
+    ensures count { result ≡ length circuit.now.nets }
+{
+    circuit.parts().nets.len() as u32
+}
+
 /// The first net whose path is a name.
 pub fn find_net(alloc: Global, circuit: &Circuit, name: &[u8]) -> Result<Option<NetId>, NoMemory>
     ensures found { IfOk result (λ net. net ≡ net_called circuit.now name.now) }
     ensures within { IfOk result (λ net. IfSome net (λ n. n < length circuit.now.nets)) }
 {
-    for net in 0..circuit.parts().nets.len() as u32 {
+    for net in 0..count_nets(circuit) {
         if is_net_called(alloc, circuit, net, name)? {
             return Ok(Some(net));
         }

@@ -10,5 +10,5 @@ mod toggles;
 mod told;
 
 pub use finding::{find_net, find_violation};
-pub use parting::violation_causes;
+pub use parting::{check_nets, violation_causes};
 pub use told::{Told, net_causes};

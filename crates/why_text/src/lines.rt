@@ -193,7 +193,8 @@ pub fn push_start(
     ensures { OnOk result (text.new.items ≡ text.old.items ++ start_line circuit.now event) }
 {
     push_event(alloc, text, circuit, event)?;
-    text.extend_from_slice(b" from the start\n")
+    text.extend_from_slice(b" from the start\n")?;
+    Ok(())
 }
 
 // Adds the line of an event of a constant that an element drives.

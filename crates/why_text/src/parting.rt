@@ -1,6 +1,7 @@
 // What is told of a violation.
 ghost use Rattle.std.specs.Prelude.{◌≡◌, ◌-◌, ◌==◌, ◌++◌, ◌<◌, ◌^◌, ◌-ℤ◌, pos, IfOk, OnOk, codes, decimal, length, map};
 ghost use Rattle.std.specs.Fmt.{signed_decimal};
+ghost use Rattle.sg_circuit.specs.Closed.{IsClosed};
 ghost use Rattle.wave_out.specs.Texts.{line};
 ghost use Rattle.time_checks.specs.Seen.{violation_seen};
 ghost use Rattle.why_text.specs.Lines.{timing_at};
@@ -19,6 +20,7 @@ use why_causes::{Event, Trace};
 
 // The nets of a check's reference and data.
 fn nets_of(circuit: &Circuit, violation: &Violation) -> (NetId, NetId)
+    ensures closed { IsClosed circuit.now }
     ensures refer { result.0 ≡ refer_net circuit.now (violation_seen violation.now) }
     ensures datum { result.1 ≡ datum_net circuit.now (violation_seen violation.now) }
 {
@@ -29,6 +31,17 @@ fn nets_of(circuit: &Circuit, violation: &Violation) -> (NetId, NetId)
         Some(datum) => (timing.refer.net, datum.net),
         None => (timing.refer.net, timing.refer.net),
     }
+}
+
+/// The nets of a violation's reference and data.
+pub fn check_nets(circuit: &Circuit, violation: &Violation) -> (NetId, NetId)
+    requires check { violation.now.check < length circuit.now.check_timings }
+    ensures refer { result.0 ≡ refer_net circuit.now (violation_seen violation.now) }
+    ensures datum { result.1 ≡ datum_net circuit.now (violation_seen violation.now) }
+    ensures refer_within { result.0 < length circuit.now.nets }
+    ensures datum_within { result.1 < length circuit.now.nets }
+{
+    nets_of(circuit, violation)
 }
 
 // The first event of a chain, from its end backwards, that is one of a net.
@@ -214,7 +227,7 @@ pub fn violation_causes(
     requires datum { violation.now.datum_time < 2 ^ 63 }
     ensures { IfOk result (λ text. IsToldViolation circuit.now trace.now (map (λ v. violation_seen v) violations.now) (violation_seen violation.now) text.items) }
 {
-    let (refer, datum) = nets_of(circuit, violation);
+    let (refer, datum) = check_nets(circuit, violation);
     let data_told = net_causes(
         alloc,
         circuit,

@@ -1,6 +1,5 @@
 // Instances and their pins.
-ghost use Rattle.std.specs.Prelude.{◌≡◌, ◌≤◌, ◌<◌, ◌^◌, ◌++◌, ◌==◌, ◌-ℤ◌, ◌+◌, All, IfOk, OnOk, Some, codes, is_some, length, map, nat_abs, [], IfSome};
-ghost use Rattle.std.specs.List.{position_from};
+ghost use Rattle.std.specs.Prelude.{◌≡◌, ◌≤◌, ◌<◌, ◌^◌, ◌++◌, ◌==◌, ◌-ℤ◌, ◌+◌, All, IfOk, OnOk, Some, codes, is_some, length, map, nat_abs, position, [], IfSome};
 ghost use Rattle.sg_circuit.specs.Circuit.{element_at, scope_at};
 ghost use Rattle.sg_circuit.specs.Closed.{width_of};
 ghost use Rattle.sg_circuit.specs.Seen.{variable_seen};
@@ -43,7 +42,7 @@ fn push_variable_bit(
 }
 
 fn position_of(bits: &[NetId], net: NetId) -> Option<usize>
-    ensures place { result ≡ position_from (λ n. n == net) 0 bits.now }
+    ensures place { result ≡ position (λ n. n == net) bits.now }
     ensures within { IfSome result (λ place. place < length bits.now) }
 {
     bits.iter().position(|bit| *bit == net)

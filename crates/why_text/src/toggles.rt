@@ -112,6 +112,9 @@ pub fn push_toggled(
             text.extend_from_slice(b" toggled by ")?;
             push_violation(alloc, text, circuit, &violations[place])
         }
-        None => text.extend_from_slice(b" toggled\n"),
+        None => {
+            text.extend_from_slice(b" toggled\n")?;
+            Ok(())
+        }
     }
 }

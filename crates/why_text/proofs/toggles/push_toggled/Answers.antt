@@ -8,5 +8,6 @@ returns-in_ok-extend_from_slice-in-Some c =
     (λ last. toggled_by c.args.circuit.now c.args.event c.args.violations.now c.in-Some.place _ c.args.text.now.items _ _ _ c.in-Some.ensures c.in_ok-push_event.ensures c.in_ok-extend_from_slice-in-Some.ensures.items last)
     c.push_violation.ensures
 
-pub returns-in-None : goal.returns-in-None
-returns-in-None c = ?
+pub returns-in_ok-extend_from_slice-in-None : goal.returns-in_ok-extend_from_slice-in-None
+returns-in_ok-extend_from_slice-in-None c =
+    toggled_by_none c.args.circuit.now c.args.event c.args.violations.now c.args.text.now.items _ _ c.in-None.ensures c.in_ok-push_event.ensures c.in_ok-extend_from_slice-in-None.ensures.items
