@@ -1,2 +1,0 @@
--- The modules of this folder.
-pub mod EscapedLaws
