@@ -1,3 +1,4 @@
 -- The modules of this folder.
 pub mod Events
 pub mod Ends
+pub mod Bounds

@@ -6,6 +6,7 @@ ghost use Rattle.sg_stimulus.specs.Seen.{stimulus_seen};
 ghost use Rattle.time_checks.specs.Seen.{violation_seen};
 ghost use Rattle.sim_rounds.specs.Setting.{setting_of};
 ghost use Rattle.sim_rounds.specs.Simulated.{first_state, first_value_of, run_of_circuit};
+ghost use Rattle.why_history.specs.Bounds.{IsBounded};
 ghost use Rattle.why_history.specs.Events.{AreEvents};
 ghost use Rattle.why_history.specs.Ends.{found_in, HasRun, IsEnd};
 
@@ -121,6 +122,7 @@ pub fn watch(
     ensures times { IfOk result (λ w. All (λ e. e.time < 2 ^ 60) w.events.items) }
     ensures rise { IfOk result (λ w. AllPairs (λ d e. d.time ≤ e.time) w.events.items) }
     ensures violations { IfOk result (λ w. map (λ v. violation_seen v) w.violations.items ≡ (run_of_circuit circuit.now bound (stimulus_seen stimulus.now)).run.violations) }
+    ensures bounded { IfOk result (λ w. All (λ v. IsBounded circuit.now v) w.violations.items) }
     ensures spent { IfOk result (λ w. found_in w.spent ≡ (run_of_circuit circuit.now bound (stimulus_seen stimulus.now)).spent) }
 {
     let mut shelf = MemoryShelf::new(alloc);

@@ -7,6 +7,7 @@ use Rattle.std.specs.Option.{option_map}
 use Rattle.sg_circuit.specs.Circuit.{Circuit}
 use Rattle.sim_rounds.specs.Simulated.{first_state}
 use Rattle.wave_out.specs.Texts.{line}
+use Rattle.why_history.specs.Bounds.{IsBounded}
 use Rattle.why_history.specs.Ends.{found_in}
 use Rattle.why_history.specs.Events.{AreEvents}
 use Rattle.why_history.specs.declared.watched.Spent as code_spent
@@ -106,9 +107,10 @@ module _ {E : Type 0} where
   pub watched_run : (task : code_task.Task) (rounds : ℕ) (r : Result code_run.Watched E) → IfOk r (λ w. w.first.items ≡ (first_state task.circuit).values) → IfOk r (λ w. length w.first.items < 2 ^ 32) → IfOk r (λ w. length w.first.items ≡ length task.circuit.nets)
       → IfOk r (λ w. AreEvents (first_state task.circuit).values (run_of (task_seen task) rounds) w.events.items) → IfOk r (λ w. All (λ e. e.net < length w.first.items) w.events.items) → IfOk r (λ w. All (λ e. e.time < 2 ^ 60) w.events.items)
       → IfOk r (λ w. AllPairs (λ d e. d.time ≤ e.time) w.events.items) → IfOk r (λ w. map (λ v. violation_seen v) w.violations.items ≡ (run_of (task_seen task) rounds).run.violations)
-      → IfOk r (λ w. found_in w.spent ≡ (run_of (task_seen task) rounds).spent) → IfOk r (λ w. IsRunOf (task_seen task) rounds w)
-  watched_run task rounds (Ok w) first few values events nets times rise violations spent = record {
+      → IfOk r (λ w. All (λ v. IsBounded task.circuit v) w.violations.items) → IfOk r (λ w. found_in w.spent ≡ (run_of (task_seen task) rounds).spent) → IfOk r (λ w. IsRunOf (task_seen task) rounds w)
+  watched_run task rounds (Ok w) first few values events nets times rise violations bounded spent = record {
     run = record { first = first; events = events; violations = violations; spent = spent };
     order = record { values = values; few = few; nets = nets; times = times; rise = rise };
+    bounded = bounded;
   }
-  watched_run task rounds (Err e) first few values events nets times rise violations spent = tt
+  watched_run task rounds (Err e) first few values events nets times rise violations bounded spent = tt

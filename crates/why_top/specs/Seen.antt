@@ -5,7 +5,6 @@ use Rattle.sg_io.specs.Files.{File}
 use Rattle.sg_io.specs.Put.{SinkTold}
 use Rattle.sg_circuit.specs.Circuit.{Circuit}
 use Rattle.sg_stimulus.specs.Seen.{stimulus_seen}
-use Rattle.time_checks.specs.declared.violations.Violation as code_violation
 use Rattle.time_checks.specs.Seen.{violation_seen}
 use Rattle.signoff_phases.specs.Stops.{refusal_seen}
 use Rattle.signoff_phases.specs.Told.{TellsMade, TellsStop}
@@ -13,6 +12,7 @@ use Rattle.signoff_phases.specs.declared.status.Status.{Status}
 use Rattle.signoff_phases.specs.declared.stop.Stop as code_stop
 use Rattle.signoff_phases.specs.declared.stop.Stop.TheVariants as stop
 use Rattle.why_causes.specs.Waveform.{Waveform}
+use Rattle.why_history.specs.Bounds.{IsBounded}
 use Rattle.why_history.specs.Ends.{found_in}
 use Rattle.why_words.specs.Words.{Asked}
 use Rattle.why_words.specs.declared.questions.Question as code_question
@@ -44,14 +44,11 @@ pub record IsInOrder (width : ℕ) (w : Waveform) : Type 0 where
   pub times : All (λ e. e.time < 2 ^ 60) w.events
   pub rise : AllPairs (λ d e. d.time ≤ e.time) w.events
 
--- a violation of a check that there is, at times that there are
-abbrev pub IsBounded : Circuit → code_violation.Violation → Type 0
-IsBounded c v = (v.check < length c.check_timings) × (v.refer_time < 2 ^ 63) × (v.datum_time < 2 ^ 63)
-
 -- the run of a task
 pub record IsRunOf (task : Task) (rounds : ℕ) (r : code_run.Watched) : Type 0 where
   pub run : IsRun task rounds (run_seen r)
   pub order : IsInOrder (length task.circuit.nets) (waveform_of r)
+  pub bounded : All (λ v. IsBounded task.circuit v) r.violations.items
 
 -- the time of a question has a next one
 abbrev pub IsSoon : code_question.Question → Type 0

@@ -7,7 +7,8 @@ ghost use Rattle.why_history.specs.Ends.{found_in};
 ghost use Rattle.why_text.specs.Finding.{net_called};
 ghost use Rattle.why_words.specs.WordsSeen.{question_seen};
 ghost use Rattle.why_top.specs.Answer.{IsAnswerIn, IsChainAnswer, IsNetAnswer, IsViolationAnswer, TellsChain, TellsViolation, spent_answer, spent_by, told, unfound_answer};
-ghost use Rattle.why_top.specs.Seen.{IsBounded, IsInOrder, IsSoon, answer_seen, run_seen, task_seen, waveform_of};
+ghost use Rattle.why_history.specs.Bounds.{IsBounded};
+ghost use Rattle.why_top.specs.Seen.{IsInOrder, IsSoon, answer_seen, run_seen, task_seen, waveform_of};
 
 use crate::runs::{Task, run_of};
 use run_report::spent_text;

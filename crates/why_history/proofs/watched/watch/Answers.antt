@@ -7,6 +7,7 @@ use Rattle.why_history.specs.Events.{AreEvents}
 use Rattle.why_history.specs.declared.history.History.{History}
 use Rattle.why_history.proofs.HistoryLaws.{kept_are, violations_are}
 use Rattle.why_history.proofs.OrderLaws.{nets_in, rise_in, times_in}
+use Rattle.why_history.proofs.ViolationLaws.{all_bounded}
 use Rattle.why_history.proofs.watched.watch.Goals as goal
 
 pub returns-clause-events : goal.returns-clause-events
@@ -29,3 +30,6 @@ pub returns-clause-violations : goal.returns-clause-violations
 returns-clause-violations c =
     violations_are (λ (w : History). w.events.items) _ _ _ _ _ c.args.circuit.now (setting_of c.args.circuit.now (stimulus_seen c.args.stimulus.now) c.args.bound) c.new-history.ensures.events _ _ _ _ _ c.in_ok-finished.ensures.1
     c.in_ok-spent.ensures
+
+pub returns-clause-bounded : goal.returns-clause-bounded
+returns-clause-bounded c = all_bounded c.args.circuit.now c.args.bound (stimulus_seen c.args.stimulus.now) _ c.requires.applied.fits (returns-clause-violations c)
