@@ -6,7 +6,7 @@ use Rattle.std.proofs.Common.{sym, ◌∙◌, ap, arith, add-zero}
 use Rattle.sg_logic.specs.declared.values.Value.{Value}
 use Rattle.sg_logic.specs.declared.values.Value.TheVariants.{Zero, One, X, Z}
 use Rattle.sg_logic.specs.Values.{is_same}
-use Rattle.sg_model.specs.Pending.{last_value, put, inertial, pending_after, placed_latest_first}
+use Rattle.sg_model.specs.Pending.{last_value, put, placed_latest_first}
 use Rattle.sg_model.specs.Agenda.{with_list}
 use Rattle.sg_model.specs.Machine.{Stamp, Rule, Inertial, Pulse}
 use Rattle.sg_model.specs.Round.{placed_by}

@@ -1,5 +1,5 @@
 -- What an evaluation reads of an element first.
-use Rattle.std.specs.Prelude.{◌≡◌, ℕ, ◌<◌, Option, Some, None, List, [], ◌∷◌, length, slice_index_or}
+use Rattle.std.specs.Prelude.{◌≡◌, ℕ, ◌<◌, Some, None, List, [], ◌∷◌, length, slice_index_or}
 use Rattle.std.specs.Bool.{OnTrue}
 use Rattle.sg_logic.specs.declared.gates.GateKind.{GateKind}
 use Rattle.sg_circuit.specs.declared.elements.Element as code_element

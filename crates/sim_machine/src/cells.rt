@@ -1,5 +1,5 @@
 // What an evaluation reads of an element first, in one record.
-ghost use Rattle.std.specs.Prelude.{◌≡◌, ◌≤◌, All, IfOk, length};
+ghost use Rattle.std.specs.Prelude.{◌≤◌, All, IfOk};
 ghost use Rattle.sg_circuit.specs.Seen.{IsIndexed};
 ghost use Rattle.sg_circuit.specs.declared.elements.ElementKind.{ElementKind as KindSeen};
 ghost use Rattle.sim_machine.specs.Cells.{AreCells, HasBrief, IsCell, IsCopying, IsGate};

@@ -1,6 +1,6 @@
 -- The violations of a run are of checks that there are, at times up to its end.
-use Rattle.std.specs.Prelude.{◌≡◌, ℕ, zero, suc, ◌+◌, ◌-◌, ◌<◌, ◌≤◌, ◌==◌, ◌^◌, ℤ, Bool, true, false, if◌then◌else◌, cond, filter, max, nat_le, All, List, [], ◌∷◌, ◌++◌, length, map, option_map, Option, Some, None, refl}
-use Rattle.std.proofs.Common.{sym, ◌∙◌, ap, subst, arith}
+use Rattle.std.specs.Prelude.{◌≡◌, ℕ, zero, suc, ◌+◌, ◌-◌, ◌<◌, ◌≤◌, ◌==◌, ◌^◌, ℤ, Bool, true, false, cond, filter, nat_le, All, List, [], ◌∷◌, length, map, option_map, Option, Some, None, refl}
+use Rattle.std.proofs.Common.{sym, ◌∙◌, subst, arith}
 use Rattle.std.proofs.lemmas.List.{length-map}
 use Rattle.std.proofs.lemmas.List.FromFn.{length-enumerate_from}
 use Rattle.std.proofs.lemmas.List.Elements.{All-append, All-cons, All-head, All-nil, All-tail, All-weaker}
@@ -9,7 +9,7 @@ use Rattle.sg_logic.specs.declared.values.Value.{Value}
 use Rattle.sg_circuit.specs.Circuit.{Circuit}
 use Rattle.sg_circuit.specs.declared.checks.Event.{Event}
 use Rattle.sg_circuit.proofs.SeenLaws.{all-unmapped}
-use Rattle.sg_model.specs.Machine.{Machine, Snapshot, Violation}
+use Rattle.sg_model.specs.Machine.{Snapshot, Violation}
 use Rattle.sg_model.specs.Time.{Run, Ended, Whole, Spent, flips_of, time_of, with_round, with_snapshot}
 use Rattle.sg_model.specs.Run.{times_from}
 use Rattle.sg_model.proofs.PlacedLaws.{if_fact}

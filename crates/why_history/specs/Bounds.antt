@@ -1,5 +1,5 @@
 -- Violations whose numbers a circuit has.
-use Rattle.std.specs.Prelude.{ℕ, ◌<◌, ◌^◌, length}
+use Rattle.std.specs.Prelude.{◌<◌, ◌^◌, length}
 use Rattle.sg_circuit.specs.Circuit.{Circuit}
 use Rattle.time_checks.specs.declared.violations.Violation as code_violation
 
