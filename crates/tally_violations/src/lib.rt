@@ -10,6 +10,7 @@ mod waivers;
 
 pub use figures::push_figures;
 pub use groups::order;
+pub use numbers::{number_of, signed_of, small_number};
 pub use rows::Unread;
 pub use violations::{Violation, read_report};
 pub use waivers::{Waiver, left_by, read_waivers};

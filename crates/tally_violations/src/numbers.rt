@@ -20,8 +20,8 @@ fn are_digits(text: &[u8]) -> bool
     text.len() > 0 && all_digits(text)
 }
 
-// The number of some digits, if it is below 2^60.
-fn small_number(digits: &[u8]) -> Option<u64>
+/// The number of some digits, if it is below 2^60.
+pub fn small_number(digits: &[u8]) -> Option<u64>
     ensures { MatchOption result (2 ^ 60 ≤ number_from 0 digits.now) (λ n. (n ≡ number_from 0 digits.now) × (n < 2 ^ 60)) }
 {
     let mut n = 0u64;
