@@ -20,7 +20,7 @@ use Rattle.tally_toggles.specs.Nets.{Ends}
 use Rattle.tally_toggles.specs.Text.{Wanted}
 use Rattle.tally_toggles.specs.declared.names.Called as code_called
 use Rattle.tally_toggles.specs.declared.ranges.Ends as code_ends
-use Rattle.tally_toggles.specs.declared.toggles.Wanted as code_wanted
+use Rattle.tally_toggles.specs.declared.dump.Wanted as code_wanted
 
 abbrev pub wanted_seen : code_wanted.Wanted → Wanted
 wanted_seen w = record { scope = option_map (λ s. s.now) w.scope; from = w.from; to = w.to }

@@ -2,6 +2,7 @@
 #![tactic(auto)]
 
 mod bits;
+mod dump;
 mod faults;
 mod header;
 mod lines;
@@ -9,9 +10,9 @@ mod names;
 mod paths;
 mod ranges;
 mod tallies;
-mod toggles;
+
 mod units;
 mod variables;
 mod walk;
 
-pub use toggles::{Wanted, toggles};
+pub use dump::{Wanted, toggles};

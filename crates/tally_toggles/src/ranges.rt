@@ -47,7 +47,7 @@ fn right_of(text: &[u8]) -> &[u8]
     }
 }
 
-fn ends(left: &[u8], right: &[u8]) -> Option<Ends>
+fn ends_between(left: &[u8], right: &[u8]) -> Option<Ends>
     ensures ends { option_map ends_seen result ≡ def.ends (signed_of left.now) (signed_of right.now) }
     ensures left { IfSome result (λ e. unsigned_abs e.left < 2 ^ 60) }
     ensures right { IfSome result (λ e. unsigned_abs e.right < 2 ^ 60) }
@@ -63,9 +63,9 @@ fn ends_inside(text: &[u8]) -> Option<Ends>
     ensures right { IfSome result (λ e. unsigned_abs e.right < 2 ^ 60) }
 {
     if has_colon(text) {
-        ends(left_of(text), right_of(text))
+        ends_between(left_of(text), right_of(text))
     } else {
-        ends(text, text)
+        ends_between(text, text)
     }
 }
 

@@ -6,9 +6,8 @@ use Rattle.std.specs.Prelude.{Result, Ok, Err, IfOk, Option, Some, None, codes, 
 use Rattle.sg_io.specs.Files.{File, Reads, ReadsFrom, bytes_of}
 use Rattle.sg_io.specs.declared.outside.ReadError.{ReadError}
 use Rattle.sg_io.specs.declared.outside.ReadError.TheVariants as reading
-use Rattle.tally_top.specs.Answer.{Answer, AreFigured, IsAnswerFor, IsTextAnswer, IsWaived, figured, has_texts, read_limit, refused_line, report_refused, text_of, told, waive_text, waived, waivers_refused}
+use Rattle.tally_top.specs.Answer.{Answer, AreCounted, AreFigured, IsTextAnswer, IsWaived, figured, has_texts, read_limit, refused_line, report_refused, syntax, text_of, told, waive_text, waived, waivers_refused}
 use Rattle.tally_top.specs.Seen.{answer_seen}
-use Rattle.tally_top.specs.Words.{Asked}
 use Rattle.tally_top.specs.declared.answers.Answer as code
 use Rattle.tally_top.specs.declared.status.Status.TheVariants as status
 use Rattle.tally_violations.specs.Seen.{violation_seen, waiver_seen}
@@ -16,6 +15,7 @@ use Rattle.tally_violations.specs.Violations.{violations}
 use Rattle.tally_violations.specs.Waivers.{waivers}
 use Rattle.tally_violations.specs.declared.violations.Violation.{Violation}
 use Rattle.tally_violations.specs.declared.waivers.Waiver.{Waiver}
+use Rattle.tally_words.specs.Violations.{Violations}
 
 -- ---- the files
 
@@ -44,8 +44,8 @@ text_missed old name limit held x m is h e =
     ap (λ n. option_map (take n) (bytes_of name held)) is
     ∙ none_read limit (bytes_of name held) (subst (λ y. ReadsFrom (bytes_of name held) limit (Err y)) m (held_reads old name limit held (Err x) h e))
 
-pub has_both : (asked : Asked) (held : List File) (answer : Answer) (report waive r w : List ℕ) → r ≡ report → w ≡ waive → text_of asked.report held ≡ Some report → waive_text asked.waive held ≡ Some waive
-    → IsTextAnswer asked r w answer → IsAnswerFor asked held answer
+pub has_both : (asked : Violations) (held : List File) (answer : Answer) (report waive r w : List ℕ) → r ≡ report → w ≡ waive → text_of asked.report held ≡ Some report → waive_text asked.waive held ≡ Some waive
+    → IsTextAnswer asked r w answer → AreCounted asked held answer
 has_both asked held answer report waive r w e f g h t = has_texts report waive g h (subst (λ x. IsTextAnswer asked report x answer) f (subst (λ x. IsTextAnswer asked x w answer) e t))
 
 -- ---- the texts
@@ -62,16 +62,16 @@ module _ {E : Type 0} where
   figured_by (Err x) name all waive ws given e f h = h
 
   pub not_waivers : (r : Result code.Answer E) (name : List ℕ) (all : List Violation) (waive : List ℕ) (number : ℕ) → waivers waive ≡ Err number
-      → IfOk r (λ a. answer_seen a ≡ told status.Refused (refused_line (codes "waivers") name number)) → IfOk r (λ a. IsWaived name all waive (answer_seen a))
+      → IfOk r (λ a. answer_seen a ≡ told status.Refused (refused_line (codes "waivers") name number syntax)) → IfOk r (λ a. IsWaived name all waive (answer_seen a))
   not_waivers (Ok a) name all waive number e h = waivers_refused number e h
   not_waivers (Err x) name all waive number e h = h
 
-  pub waived_by : (r : Result code.Answer E) (asked : Asked) (report waive name : List ℕ) (all given : List Violation) → name ≡ unwrap_or asked.waive [] → given ≡ all → violations report ≡ Ok (map (λ v. violation_seen v) all)
+  pub waived_by : (r : Result code.Answer E) (asked : Violations) (report waive name : List ℕ) (all given : List Violation) → name ≡ unwrap_or asked.waive [] → given ≡ all → violations report ≡ Ok (map (λ v. violation_seen v) all)
       → IfOk r (λ a. IsWaived name given waive (answer_seen a)) → IfOk r (λ a. IsTextAnswer asked report waive (answer_seen a))
   waived_by (Ok a) asked report waive name all given n e f h = waived all f (subst (λ m. IsWaived m all waive (answer_seen a)) n (subst (λ l. IsWaived name l waive (answer_seen a)) e h))
   waived_by (Err x) asked report waive name all given n e f h = h
 
-  pub not_report : (r : Result code.Answer E) (asked : Asked) (report waive : List ℕ) (number : ℕ) → violations report ≡ Err number
-      → IfOk r (λ a. answer_seen a ≡ told status.Refused (refused_line (codes "report") asked.report number)) → IfOk r (λ a. IsTextAnswer asked report waive (answer_seen a))
+  pub not_report : (r : Result code.Answer E) (asked : Violations) (report waive : List ℕ) (number : ℕ) → violations report ≡ Err number
+      → IfOk r (λ a. answer_seen a ≡ told status.Refused (refused_line (codes "report") asked.report number syntax)) → IfOk r (λ a. IsTextAnswer asked report waive (answer_seen a))
   not_report (Ok a) asked report waive number e h = report_refused number e h
   not_report (Err x) asked report waive number e h = h

@@ -10,7 +10,7 @@ use Rattle.std.specs.declared.vec.IntoIter.{IntoIter}
 use Rattle.sg_io.specs.Put.{SinkTold}
 use Rattle.tally_top.specs.Program.{Args, Ends, WordsOf, on_words}
 use Rattle.tally_top.specs.Promises.{Outcome, ShelfTold}
-use Rattle.tally_top.specs.Words.{asked_of}
+use Rattle.tally_words.specs.Words.{asked_of}
 use Rattle.tally_top.specs.declared.status.Status.{Status}
 
 empty_list : {X : Type 0} (xs : List X) → length xs ≡ 0 → xs ≡ []

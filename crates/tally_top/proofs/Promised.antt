@@ -11,7 +11,7 @@ use Rattle.tally_top.specs.Promises.{HasAnswer, Outcome, ShelfTold, answered, na
 use Rattle.tally_top.specs.Putting.{PutsLast}
 use Rattle.tally_top.specs.Seen.{FailsAmong, Tells, TellsEnd, answer_seen}
 use Rattle.tally_top.specs.Seen as telling
-use Rattle.tally_top.specs.Words.{Asked}
+use Rattle.tally_words.specs.Words.{Asked}
 use Rattle.tally_top.specs.declared.answers.Answer as code
 use Rattle.tally_top.specs.declared.status.Status.{Status}
 use Rattle.tally_top.specs.declared.status.Status.TheVariants as status

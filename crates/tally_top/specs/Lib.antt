@@ -1,5 +1,4 @@
 -- The modules of this folder, in reading order.
-pub mod Words
 pub mod Status
 pub mod Answer
 pub mod Names

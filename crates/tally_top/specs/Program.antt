@@ -11,9 +11,9 @@ use Rattle.sg_io.specs.Put.{SinkTold}
 use Rattle.tally_top.specs.Answer.{no_memory_line}
 use Rattle.tally_top.specs.Promises.{Outcome, ShelfTold}
 use Rattle.tally_top.specs.Putting.{PutsLast}
-use Rattle.tally_top.specs.Words.{asked_of}
 use Rattle.tally_top.specs.declared.status.Status.{Status}
 use Rattle.tally_top.specs.declared.status.Status.TheVariants as status
+use Rattle.tally_words.specs.Words.{asked_of}
 
 -- the program's name and the words after it
 abbrev pub Args : Type 0

@@ -7,9 +7,9 @@ use Rattle.tally_top.specs.Answer.{IsAnswerTo, fault_line, no_memory_line, repor
 use Rattle.tally_top.specs.Names.{IsOneOf}
 use Rattle.tally_top.specs.Putting.{PutsAll, PutsTillFault, PutsTillWant, PutsLast}
 use Rattle.tally_top.specs.Status.{IsReport}
-use Rattle.tally_top.specs.Words.{Asked}
 use Rattle.tally_top.specs.declared.status.Status.{Status}
 use Rattle.tally_top.specs.declared.status.Status.TheVariants as status
+use Rattle.tally_words.specs.Words.{asks_toggles, asks_violations, Asked}
 
 -- what a shelf tells: its files, where it does; how many calls failed, and the name in the last of them
 pub record ShelfTold : Type 0 where
@@ -22,7 +22,8 @@ with_name None = []
 with_name (Some name) = name ∷ []
 
 abbrev pub names_of : Asked → List (List ℕ)
-names_of asked = asked.report ∷ with_name asked.waive
+names_of (asks_violations asked) = asked.report ∷ with_name asked.waive
+names_of (asks_toggles asked) = asked.dump ∷ []
 
 -- the files that the words name
 abbrev pub names_in : Option Asked → List (List ℕ)

@@ -1,12 +1,11 @@
 -- The code's values as the definitions see them, and how its calls end.
-use Rattle.std.specs.Prelude.{ℕ, ◌≡◌, List, [], Option, Some, None, Result, Ok, Err, option_map, take, unwrap_or}
+use Rattle.std.specs.Prelude.{ℕ, ◌≡◌, List, [], Option, Some, None, Result, Ok, Err, unwrap_or}
 use Rattle.std.specs.Global.{Vec}
 use Rattle.sg_io.specs.Files.{File}
 use Rattle.sg_io.specs.Put.{SinkTold}
 use Rattle.sg_io.specs.declared.outside.ShelfError.{ShelfError}
 use Rattle.sg_io.specs.declared.outside.ShelfError.TheVariants as shelf
 use Rattle.tally_top.specs.Answer.{Answer, IsAnswerTo, no_memory_line, fault_line, report_fault_line}
-use Rattle.tally_top.specs.Words.{Asked}
 use Rattle.tally_top.specs.Names.{IsOneOf}
 use Rattle.tally_top.specs.Promises.{PutsReport, names_in}
 use Rattle.tally_top.specs.Putting.{PutsTillFault, PutsTillWant, PutsLast}
@@ -14,10 +13,6 @@ use Rattle.tally_top.specs.Status.{IsReport}
 use Rattle.tally_top.specs.declared.answers.Answer as code_answer
 use Rattle.tally_top.specs.declared.status.Status.{Status}
 use Rattle.tally_top.specs.declared.status.Status.TheVariants as status
-use Rattle.tally_top.specs.declared.words.Asked as code_asked
-
-abbrev pub asked_seen : code_asked.Asked → Asked
-asked_seen a = record { report = a.report.now; waive = option_map (λ n. n.now) a.waive }
 
 abbrev pub answer_seen : code_answer.Answer → Answer
 answer_seen a = record { status = a.status; report = a.report.items }

@@ -5,14 +5,14 @@ ghost use Rattle.sg_io.specs.Files.{File};
 ghost use Rattle.tally_top.specs.Answer.{IsAnswerTo};
 ghost use Rattle.tally_top.specs.Promises.{Outcome, names_in};
 ghost use Rattle.tally_top.specs.Seen.{FailsAmong, answer_seen};
-ghost use Rattle.tally_top.specs.Words.{asked_of};
+ghost use Rattle.tally_words.specs.Words.{asked_of};
 
 use crate::answers::{Answer, answer_for, usage_answer};
 use crate::report::tell;
 use crate::status::Status;
-use crate::words::read_words;
 use sg_io::{Shelf, ShelfError, Sink};
 use std::alloc::Global;
+use tally_words::read_words;
 
 // Does what the words ask for, but for the report.
 fn work<S: Shelf>(alloc: Global, words: &[String], shelf: &mut S) -> Result<Answer, ShelfError>
@@ -27,8 +27,8 @@ fn work<S: Shelf>(alloc: Global, words: &[String], shelf: &mut S) -> Result<Answ
     answer_for(alloc, &asked, shelf)
 }
 
-/// Does what the words after the program's name ask for: reads the report and the waivers from the shelf, and puts the figures of the
-/// violations that are left to the sink. The status is the program's.
+/// Does what the words after the program's name ask for: reads the report and the waivers, or the dump, from the shelf, and puts the
+/// figures of the violations that are left, or the toggles, to the sink. The status is the program's.
 pub fn top<S: Shelf, K: Sink>(
     alloc: Global,
     words: &[String],

@@ -2,20 +2,19 @@
 ghost use Rattle.std.specs.Prelude.{◌≡◌, List, IfOk, Some};
 ghost use Rattle.sg_io.specs.Faults.{Cause};
 ghost use Rattle.sg_io.specs.Files.{File};
-ghost use Rattle.tally_top.specs.Answer.{AreFigured, IsAnswerFor, IsTextAnswer, IsWaived, missing_line, refused_line, status_of, told, usage_line};
+ghost use Rattle.tally_top.specs.Answer.{IsAnswerFor, missing_line, refused_line, told, usage_line};
 ghost use Rattle.tally_top.specs.Promises.{names_of};
-ghost use Rattle.tally_top.specs.Seen.{FailsAmong, answer_seen, asked_seen};
+ghost use Rattle.tally_top.specs.Seen.{FailsAmong, answer_seen};
+ghost use Rattle.tally_words.specs.Seen.{asked_seen};
 
-use crate::inputs::{read_text, read_waive};
+use crate::counted::counted;
 use crate::lines::{USAGE, line_of, refused_line};
 use crate::status::Status;
-use crate::words::Asked;
+use crate::toggled::toggled;
 use sg_io::{Shelf, ShelfError};
 use sg_text::NoMemory;
 use std::alloc::Global;
-use tally_violations::{
-    Unread, Violation, Waiver, left_by, order, push_figures, read_report, read_waivers,
-};
+use tally_words::Asked;
 
 /// What the program answers: its status, and the report.
 #[derive(Drop)]
@@ -35,7 +34,8 @@ pub fn usage_answer(alloc: Global) -> Result<Answer, NoMemory>
     })
 }
 
-fn missing_answer(alloc: Global, name: &str) -> Result<Answer, NoMemory>
+/// A file isn't there.
+pub fn missing_answer(alloc: Global, name: &str) -> Result<Answer, NoMemory>
     ensures { IfOk result (λ a. answer_seen a ≡ told Status.Missing (missing_line name.now)) }
 {
     let report = line_of(alloc, "missing: ", name)?;
@@ -45,73 +45,21 @@ fn missing_answer(alloc: Global, name: &str) -> Result<Answer, NoMemory>
     })
 }
 
-fn refused_answer(alloc: Global, what: &str, name: &str, number: u64) -> Result<Answer, NoMemory>
-    ensures { IfOk result (λ a. answer_seen a ≡ told Status.Refused (refused_line what.now name.now number)) }
+/// A file is refused at a line.
+pub fn refused_answer(
+    alloc: Global,
+    what: &str,
+    name: &str,
+    number: u64,
+    kind: &str,
+) -> Result<Answer, NoMemory>
+    ensures { IfOk result (λ a. answer_seen a ≡ told Status.Refused (refused_line what.now name.now number kind.now)) }
 {
-    let report = refused_line(alloc, what, name, number)?;
+    let report = refused_line(alloc, what, name, number, kind)?;
     Ok(Answer {
         status: Status::Refused,
         report,
     })
-}
-
-fn status_of(left: &[Violation<'_>]) -> Status
-    ensures { result ≡ status_of left.now }
-{
-    match left {
-        [] => Status::Clear,
-        _ => Status::Left,
-    }
-}
-
-// The figures of all violations but those that are waived, of waivers in a file of this name.
-fn figured(
-    alloc: Global,
-    name: &str,
-    all: &[Violation<'_>],
-    waivers: &[Waiver<'_>],
-) -> Result<Answer, NoMemory>
-    ensures { IfOk result (λ a. AreFigured name.now all.now waivers.now (answer_seen a)) }
-{
-    let mut ordered = left_by(alloc, waivers, all)?;
-    order(&mut ordered)?;
-    let mut report = Vec::new(alloc);
-    push_figures(&mut report, name, all, waivers, &ordered)?;
-    Ok(Answer {
-        status: status_of(&ordered),
-        report,
-    })
-}
-
-// The answer where these are the report's violations.
-fn waived(
-    alloc: Global,
-    name: &str,
-    all: &[Violation<'_>],
-    waive: &[u8],
-) -> Result<Answer, NoMemory>
-    ensures { IfOk result (λ a. IsWaived name.now all.now waive.now (answer_seen a)) }
-{
-    match read_waivers(alloc, waive) {
-        Ok(waivers) => figured(alloc, name, all, &waivers),
-        Err(Unread::Line(number)) => refused_answer(alloc, "waivers", name, number),
-        Err(Unread::NoMemory) => Err(NoMemory),
-    }
-}
-
-fn text_answer(
-    alloc: Global,
-    asked: &Asked<'_>,
-    report: &[u8],
-    waive: &[u8],
-) -> Result<Answer, NoMemory>
-    ensures { IfOk result (λ a. IsTextAnswer (asked_seen asked.now) report.now waive.now (answer_seen a)) }
-{
-    match read_report(alloc, report) {
-        Ok(all) => waived(alloc, asked.waive.unwrap_or(""), &all, waive),
-        Err(Unread::Line(number)) => refused_answer(alloc, "report", asked.report, number),
-        Err(Unread::NoMemory) => Err(NoMemory),
-    }
 }
 
 /// The answer to what is asked.
@@ -125,11 +73,8 @@ pub fn answer_for<S: Shelf>(
     ensures cause { Cause (S.fault_count shelf.old) (S.fault_count shelf.new) result }
     ensures named { FailsAmong (S.last_fault shelf.new) (names_of (asked_seen asked.now)) result }
 {
-    let Some(report) = read_text(alloc, shelf, asked.report)? else {
-        return Ok(missing_answer(alloc, asked.report)?);
-    };
-    let Some(waive) = read_waive(alloc, shelf, asked.waive)? else {
-        return Ok(missing_answer(alloc, asked.waive.unwrap_or(""))?);
-    };
-    Ok(text_answer(alloc, asked, &report, &waive)?)
+    match asked {
+        Asked::Violations(asked) => counted(alloc, asked, shelf),
+        Asked::Toggles(asked) => toggled(alloc, asked, shelf),
+    }
 }

@@ -3,14 +3,14 @@
 
 mod answer;
 mod answers;
+mod counted;
 mod inputs;
 mod lines;
 mod report;
 mod status;
 mod system;
-mod words;
+mod toggled;
 
 pub use answer::top;
 pub use status::Status;
 pub use system::program;
-pub use words::Asked;

@@ -6,7 +6,7 @@ use itoa::Buffer;
 use sg_text::NoMemory;
 use std::alloc::Global;
 
-pub const USAGE: &str = "usage: tally violations REPORT [--waive FILE]";
+pub const USAGE: &str = "usage: tally violations REPORT [--waive FILE] | tally toggles DUMP [--scope PATH] [--from T] [--to T]";
 
 /// A text on a line of its own.
 pub fn line_of(alloc: Global, before: &str, name: &str) -> Result<Vec<u8>, NoMemory>
@@ -18,9 +18,15 @@ pub fn line_of(alloc: Global, before: &str, name: &str) -> Result<Vec<u8>, NoMem
     Ok(text)
 }
 
-/// The line of a file's first line that has no form.
-pub fn refused_line(alloc: Global, what: &str, name: &str, number: u64) -> Result<Vec<u8>, NoMemory>
-    ensures { IfOk result (λ text. text.items ≡ refused_line what.now name.now number) }
+/// The line of a file that is refused at a line.
+pub fn refused_line(
+    alloc: Global,
+    what: &str,
+    name: &str,
+    number: u64,
+    kind: &str,
+) -> Result<Vec<u8>, NoMemory>
+    ensures { IfOk result (λ text. text.items ≡ refused_line what.now name.now number kind.now) }
 {
     let mut buffer = Buffer::new();
     let mut text = Vec::from_slice(alloc, what.as_bytes())?;
@@ -28,6 +34,8 @@ pub fn refused_line(alloc: Global, what: &str, name: &str, number: u64) -> Resul
     text.extend_from_slice(name.as_bytes())?;
     text.extend_from_slice(b":")?;
     text.extend_from_slice(buffer.format(number).as_bytes())?;
-    text.extend_from_slice(b": Syntax\n")?;
+    text.extend_from_slice(b": ")?;
+    text.extend_from_slice(kind.as_bytes())?;
+    text.push(b'\n')?;
     Ok(text)
 }

@@ -1,5 +1,5 @@
 use Rattle.tally_top.proofs.Answered.{figured_by, not_waivers}
-use Rattle.tally_top.proofs.answers.waived.Goals as goal
+use Rattle.tally_top.proofs.counted.waived.Goals as goal
 
 pub returns-in-Ok : goal.returns-in-Ok
 returns-in-Ok c = figured_by c.figured.result c.args.name.now c.args.all.now c.args.waive.now _ _ c.deref.ensures.value c.in-Ok.ensures c.figured.ensures
