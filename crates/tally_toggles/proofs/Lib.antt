@@ -1,1 +1,3 @@
 -- The modules of this folder.
+pub mod Counting
+pub mod TallyLaws

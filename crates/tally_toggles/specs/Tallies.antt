@@ -1,5 +1,5 @@
 -- What a tally says of a bit: its value from a tick on, the value before that tick, and what is counted of the ticks before it.
-use Rattle.std.specs.Prelude.{◌≡◌, ℕ, ◌<◌, ◌≤◌, ◌^◌, nat_le, Bool, List, length, replicate, option_map, slice_index_or, Option, Some, None, bytes_eq, if◌then◌else◌}
+use Rattle.std.specs.Prelude.{◌≡◌, ℕ, ◌<◌, ◌≤◌, ◌^◌, nat_le, Bool, List, length, min, replicate, option_map, slice_index_or, Option, Some, None, bytes_eq, if◌then◌else◌}
 use Rattle.std.specs.Borrow.{Bor}
 use Rattle.std.specs.Global.{Vec}
 use Rattle.indexmap.specs.IndexMap.{IndexMap, get_by}
@@ -18,7 +18,7 @@ first_tally = record { before = X; value = X; time = 0; rises = 0; falls = 0; ze
 
 -- the ticks of a window that are below one are counted
 abbrev pub counted : Window → (ℕ → Bool) → ℕ → ℕ
-counted w test t = count test w.from (if nat_le t w.to then t else w.to)
+counted w test t = count test w.from (min t w.to)
 
 pub record IsCounted (w : Window) (now : ℕ) (v : ℕ → Value) (y : Tally) : Type 0 where
   pub past : y.time ≤ now

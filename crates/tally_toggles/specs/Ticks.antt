@@ -1,5 +1,5 @@
 -- The ticks that a value lasts, as they are counted.
-use Rattle.std.specs.Prelude.{ℕ, suc, ◌+◌, ◌-◌, ◌&&◌, nat_le, min, max, if◌then◌else◌}
+use Rattle.std.specs.Prelude.{ℕ, ◌+◌, ◌-◌, ◌&&◌, min, max, if◌then◌else◌}
 use Rattle.sg_logic.specs.Values.{is_same}
 use Rattle.sg_logic.specs.declared.values.Value.{Value}
 use Rattle.tally_toggles.specs.declared.tallies.Tally.{Tally}

@@ -21,7 +21,9 @@ fn with_dump<'a>(named: Named<'a>, word: &'a str) -> Option<Named<'a>>
     }
     Some(Named {
         dump: Some(word),
-        ..named
+        scope: named.scope,
+        from: named.from,
+        to: named.to,
     })
 }
 
@@ -32,8 +34,10 @@ fn with_scope<'a>(named: Named<'a>, word: &'a str) -> Option<Named<'a>>
         return None;
     }
     Some(Named {
+        dump: named.dump,
         scope: Some(word),
-        ..named
+        from: named.from,
+        to: named.to,
     })
 }
 
@@ -45,8 +49,10 @@ fn with_from<'a>(named: Named<'a>, word: &str) -> Option<Named<'a>>
     }
     let from = number_of(word.as_bytes())?;
     Some(Named {
+        dump: named.dump,
+        scope: named.scope,
         from: Some(from),
-        ..named
+        to: named.to,
     })
 }
 
@@ -58,8 +64,10 @@ fn with_to<'a>(named: Named<'a>, word: &str) -> Option<Named<'a>>
     }
     let to = number_of(word.as_bytes())?;
     Some(Named {
+        dump: named.dump,
+        scope: named.scope,
+        from: named.from,
         to: Some(to),
-        ..named
     })
 }
 

@@ -3,8 +3,9 @@ ghost use Rattle.std.specs.Prelude.{◌≡◌, drop, map, option_map, string_byt
 ghost use Rattle.tally_words.specs.Seen.{asked_seen};
 ghost use Rattle.tally_words.specs.Words as def;
 
+use crate::asked::AskedToggles;
 use crate::places::word_at;
-use crate::toggles::{AskedToggles, toggles_of};
+use crate::toggles::toggles_of;
 use crate::violations::{AskedViolations, violations_of};
 
 /// What the words ask for.
