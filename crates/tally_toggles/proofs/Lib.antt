@@ -1,3 +1,9 @@
 -- The modules of this folder.
 pub mod Counting
 pub mod TallyLaws
+pub mod Refusals
+pub mod Lists
+pub mod ItemLaws
+pub mod StandLaws
+pub mod PathLaws
+pub mod GiveLaws

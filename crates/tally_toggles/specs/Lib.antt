@@ -9,4 +9,5 @@ pub mod Paths
 pub mod Ticks
 pub mod Tallies
 pub mod Seen
+pub mod Lines
 pub mod Walk

@@ -1,11 +1,12 @@
 -- What a tally says of a bit: its value from a tick on, the value before that tick, and what is counted of the ticks before it.
-use Rattle.std.specs.Prelude.{◌≡◌, ℕ, ◌<◌, ◌≤◌, ◌^◌, nat_le, Bool, List, length, min, replicate, option_map, slice_index_or, Option, Some, None, bytes_eq, if◌then◌else◌}
+use Rattle.std.specs.Prelude.{◌≡◌, ℕ, ◌<◌, ◌≤◌, ◌^◌, nat_le, Bool, List, length, min, replicate, option_map, slice_index_or, Option, Some, None, IfSome, bytes_eq, if◌then◌else◌}
 use Rattle.std.specs.Borrow.{Bor}
 use Rattle.std.specs.Global.{Vec}
 use Rattle.indexmap.specs.IndexMap.{IndexMap, get_by}
 use Rattle.sg_logic.specs.declared.values.Value.{Value}
 use Rattle.sg_logic.specs.declared.values.Value.TheVariants.{Zero, One, X, Z}
 use Rattle.vcd_form.specs.Written.{Declaration, Item}
+use Rattle.vcd_model.specs.Values.{bits_of}
 use Rattle.tally_toggles.specs.Counts.{before, count, has, turns}
 use Rattle.tally_toggles.specs.Faults.{width_of}
 use Rattle.tally_toggles.specs.Values.{end_of, given, value_at}
@@ -59,3 +60,12 @@ pub record Stands (w : Window) (all : List Declaration) (items : List Item) (now
   pub now_is : now ≡ end_of items
   pub few : now < 2 ^ 60
   pub each : (code : List ℕ) → AreCounted w now code items (width_of all code) (table code)
+
+-- the bits of a code are given a value at a tick
+pub record AreGiven (w : Window) (now : ℕ) (bits : List ℕ) (ys zs : List Tally) : Type 0 where
+  pub same : length zs ≡ length ys
+  pub given : (k : ℕ) → k < length ys → (v : ℕ → Value) → IsCounted w now v (tally_at ys k) → IsCounted w now (with_value now (slice_index_or (bits_of (length ys) bits) k X) v) (tally_at zs k)
+
+abbrev pub IsGiven : Window → ℕ → (code bits : List ℕ) → (old new : List ℕ → Option (List Tally)) → Type 0
+IsGiven w now code bits old new =
+    IfSome (old code) (λ ys. (zs : List Tally) × AreGiven w now bits ys zs × ((c : List ℕ) → new c ≡ (if bytes_eq code c then Some zs else old c)))

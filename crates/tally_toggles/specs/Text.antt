@@ -22,9 +22,14 @@ last_tick w items = unwrap_or w.to (end_of items)
 abbrev pub figure : (word : List ℕ) → ℕ → List ℕ
 figure word n = word ++ decimal n
 
+abbrev pub first_figures : Counts → List ℕ
+first_figures c = figure (codes " rise ") c.rises ++ figure (codes " fall ") c.falls ++ figure (codes " at0 ") c.zeros
+
+abbrev pub last_figures : Counts → List ℕ
+last_figures c = figure (codes " at1 ") c.ones ++ figure (codes " atx ") c.xs ++ figure (codes " atz ") c.zs
+
 abbrev pub counts_text : Counts → List ℕ
-counts_text c =
-    (figure (codes " rise ") c.rises ++ figure (codes " fall ") c.falls ++ figure (codes " at0 ") c.zeros) ++ (figure (codes " at1 ") c.ones ++ figure (codes " atx ") c.xs ++ figure (codes " atz ") c.zs)
+counts_text c = first_figures c ++ last_figures c
 
 -- `NAME rise N fall N at0 T at1 T atx T atz T`
 abbrev pub net_line : List Item → (from to : ℕ) → Net → List ℕ
@@ -54,9 +59,11 @@ unit_of ss = first_or (negsuc 8) (flat_map powers ss)
 -- ---- all lines
 
 -- `nets N`, `ticks FROM TO UNIT`
+abbrev pub ticks_text : (number from to : ℕ) → List ℕ
+ticks_text number from to = figure (codes "nets ") number ++ figure (codes "\nticks ") from ++ figure (codes " ") to
+
 abbrev pub last_lines : (number from to : ℕ) → (power : ℤ) → List ℕ
-last_lines number from to power =
-    (figure (codes "nets ") number ++ figure (codes "\nticks ") from ++ figure (codes " ") to) ++ (codes " " ++ unit_text power ++ codes "\n")
+last_lines number from to power = ticks_text number from to ++ (codes " " ++ unit_text power ++ codes "\n")
 
 abbrev pub toggles_text : Wanted → List Section → List Item → List ℕ
 toggles_text w ss items =

@@ -1,8 +1,8 @@
 // What a value gives to the bits of a code.
-ghost use Rattle.std.specs.Prelude.{◌≡◌, ◌≤◌, ◌<◌, ◌^◌, ℕ, List, length, map, slice_index_or};
+ghost use Rattle.std.specs.Prelude.{◌≡◌, ◌≤◌, ◌<◌, ◌^◌, length, map, slice_index_or};
 ghost use Rattle.sg_logic.specs.declared.values.Value.TheVariants.{X};
 ghost use Rattle.vcd_model.specs.Values as def;
-ghost use Rattle.tally_toggles.specs.Tallies.{tally_at, with_value, IsCounted};
+ghost use Rattle.tally_toggles.specs.Tallies.{AreGiven};
 
 use crate::tallies::{Tally, Window, tally_given};
 use sg_logic::Value;
@@ -52,9 +52,7 @@ fn bit_at(bits: &[u8], width: usize, at: usize) -> Value
 pub fn give(tallies: &mut [Tally], window: Window, now: u64, bits: &[u8])
     requires few { now ≤ 2 ^ 60 }
     requires long { length bits.now ≤ length tallies.old }
-    ensures same { length tallies.new ≡ length tallies.old }
-    ensures given { (k : ℕ) → k < length tallies.old → (v : ℕ → Value) → IsCounted window now v (tally_at tallies.old k)
-        → IsCounted window now (with_value now (slice_index_or (def.bits_of (length tallies.old) bits.now) k X) v) (tally_at tallies.new k) }
+    ensures { AreGiven window now bits.now tallies.old tallies.new }
 {
     let width = tallies.len();
     for at in 0..width {

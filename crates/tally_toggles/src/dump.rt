@@ -6,8 +6,9 @@ ghost use Rattle.vcd_form.specs.Reading.{read_of};
 
 use crate::faults::fault;
 use crate::header::table_of;
-use crate::lines::{Told, push_all};
+use crate::lines::text_of;
 use crate::tallies::Window;
+use crate::told::Told;
 use crate::walk::count_items;
 use grammar::ReadFault;
 use sg_text::Refused;
@@ -69,7 +70,5 @@ pub fn toggles(
         end: wanted.to.unwrap_or(now),
         scope: wanted.scope,
     };
-    let mut text = Vec::new(alloc);
-    push_all(alloc, &mut text, &told, &sections, &table)?;
-    Ok(text)
+    Ok(text_of(alloc, &told, &sections, &table)?)
 }

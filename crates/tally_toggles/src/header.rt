@@ -1,7 +1,7 @@
 // What a dump's header says of its variables.
 ghost use Rattle.std.specs.Prelude.{◌≡◌, ◌++◌, ◌∷◌, [], ℕ, List, IfOk, OnOk, MatchResult, map, option_map};
 ghost use Rattle.tally_toggles.specs.Faults.{header_faults, scope_faults, variable_faults, width_of};
-ghost use Rattle.tally_toggles.specs.Paths.{paths, paths_in};
+ghost use Rattle.tally_toggles.specs.Paths.{open_paths, paths_in};
 ghost use Rattle.tally_toggles.specs.Seen.{RefusesOneOf};
 ghost use Rattle.tally_toggles.specs.Tallies.{fresh, listed};
 ghost use Rattle.vcd_form.specs.Seen.{section_seen};
@@ -37,7 +37,7 @@ fn variables_of<'t>(
 
 // Whether the innermost path is this one.
 fn is_at(paths: &[Vec<u8>], scope: &[u8]) -> bool
-    ensures { (scopes : List (List ℕ)) → paths_in paths.now ≡ paths scopes → result ≡ is_at scope.now scopes }
+    ensures { (scopes : List (List ℕ)) → paths_in paths.now ≡ open_paths scopes → result ≡ is_at scope.now scopes }
 {
     match paths.last() {
         Some(path) => path.as_slice() == scope,
@@ -52,8 +52,8 @@ fn opens(
     section: &Section<'_>,
     scope: &[u8],
 ) -> Result<bool, NoMemory>
-    ensures opens { (scopes : List (List ℕ)) → paths_in paths.old.items ≡ paths scopes → IfOk result (λ yes. yes ≡ opens_at scope.now scopes (section_seen section.now)) }
-    ensures passed { (scopes : List (List ℕ)) → paths_in paths.old.items ≡ paths scopes → OnOk result (paths_in paths.new.items ≡ paths (scopes_after scopes (section_seen section.now))) }
+    ensures opens { (scopes : List (List ℕ)) → paths_in paths.old.items ≡ open_paths scopes → IfOk result (λ yes. yes ≡ opens_at scope.now scopes (section_seen section.now)) }
+    ensures passed { (scopes : List (List ℕ)) → paths_in paths.old.items ≡ open_paths scopes → OnOk result (paths_in paths.new.items ≡ open_paths (scopes_after scopes (section_seen section.now))) }
 {
     pass(alloc, paths, section)?;
     match section {

@@ -10,7 +10,7 @@ mod names;
 mod paths;
 mod ranges;
 mod tallies;
-
+mod told;
 mod units;
 mod variables;
 mod walk;

@@ -1,5 +1,5 @@
 // What is counted of a bit.
-ghost use Rattle.std.specs.Prelude.{◌≡◌, ◌≤◌, ◌<◌, ◌^◌, ◌-◌, ◌&&◌, ℕ, nat_le, nat_lt, if◌then◌else◌};
+ghost use Rattle.std.specs.Prelude.{◌≡◌, ◌≤◌, ◌<◌, ◌^◌, ◌&&◌, ℕ, max};
 ghost use Rattle.sg_logic.specs.Values.{is_same};
 ghost use Rattle.tally_toggles.specs.Tallies.{first_tally, with_value, IsCounted};
 ghost use Rattle.tally_toggles.specs.Ticks.{held, overlap, turned};
@@ -112,11 +112,11 @@ fn later(tally: &Tally, window: Window, end: u64) -> Tally
     }
 }
 
-/// The tally at a tick that isn't earlier.
+/// The tally at a tick, or as it is where it is that of a later one.
 pub fn tally_until(tally: &Tally, window: Window, end: u64) -> Tally
     requires { end ≤ 2 ^ 60 }
-    ensures counted { (v : ℕ → Value) → IsCounted window end v tally.now → IsCounted window end v result }
-    ensures time { tally.now.time ≤ end → result.time ≡ end }
+    ensures counted { (v : ℕ → Value) (now : ℕ) → IsCounted window now v tally.now → IsCounted window (max now end) v result }
+    ensures time { result.time ≡ max tally.now.time end }
 {
     if tally.time < end {
         later(tally, window, end)

@@ -63,12 +63,17 @@ fn below(power: i8) -> u32
     (2 - i32::from(power)).unsigned_abs()
 }
 
+fn push_below(text: &mut Vec<u8>, below: u32) -> Result<(), NoMemory>
+    ensures { OnOk result (text.new.items ≡ text.old.items ++ def.word_below below) }
+{
+    text.extend_from_slice(number_word(below % 3).as_bytes())?;
+    text.extend_from_slice(unit_word(below / 3).as_bytes())?;
+    Ok(())
+}
+
 /// Adds the word of a unit.
 pub fn push_unit(text: &mut Vec<u8>, power: i8) -> Result<(), NoMemory>
     ensures { OnOk result (text.new.items ≡ text.old.items ++ def.unit_text power) }
 {
-    let below = below(power);
-    text.extend_from_slice(number_word(below % 3).as_bytes())?;
-    text.extend_from_slice(unit_word(below / 3).as_bytes())?;
-    Ok(())
+    push_below(text, below(power))
 }

@@ -41,8 +41,8 @@ fn add_code<'t>(
     Ok(())
 }
 
-/// How many bits the variables of a code have, if there are any.
-pub fn width_in(table: &IndexMap<&[u8], Vec<Tally>>, code: &[u8]) -> Option<usize>
+// How many bits the variables of a code have, if there are any.
+fn width_in(table: &IndexMap<&[u8], Vec<Tally>>, code: &[u8]) -> Option<usize>
     ensures { result ≡ option_map (λ ys. length ys) (listed table.now code.now) }
 {
     let tallies = table.get(code)?;

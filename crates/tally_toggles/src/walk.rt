@@ -1,9 +1,9 @@
 // Times and values behind the header, one after another.
-ghost use Rattle.std.specs.Prelude.{◌≡◌, ◌<◌, ◌++◌, ◌∷◌, [], ℕ, List, MatchResult, length, option_map, ◌^◌};
+ghost use Rattle.std.specs.Prelude.{◌≡◌, ◌<◌, ◌≤◌, ◌++◌, ◌∷◌, [], ℕ, List, IfOk, IfSome, MatchResult, length, option_map, ◌^◌};
 ghost use Rattle.sg_time.specs.Spelling.{number_from};
 ghost use Rattle.tally_toggles.specs.Faults.{item_faults, time_faults, value_faults, width_of};
 ghost use Rattle.tally_toggles.specs.Seen.{NextRead, RefusesOneOf};
-ghost use Rattle.tally_toggles.specs.Tallies.{fresh, listed, Stands};
+ghost use Rattle.tally_toggles.specs.Tallies.{fresh, listed, IsGiven, Stands};
 ghost use Rattle.tally_toggles.specs.Values.{end_of};
 ghost use Rattle.tally_toggles.specs.Walk.{IsReached, StopsBy};
 ghost use Rattle.vcd_form.specs.Reading.{read_of};
@@ -14,7 +14,6 @@ ghost use Rattle.vcd_form.specs.Written as written;
 use crate::bits::give;
 use crate::faults::fault;
 use crate::tallies::{Tally, Window};
-use crate::variables::width_in;
 use indexmap::IndexMap;
 use sg_text::Refused;
 use tally_violations::small_number;
@@ -35,37 +34,44 @@ fn time_of(byte: usize, before: u64, digits: &[u8]) -> Result<u64, Refused<VcdKi
     Ok(number)
 }
 
-// A value that is so long may be given to the variables of a code.
-fn is_for(
-    table: &IndexMap<&[u8], Vec<Tally>>,
-    byte: usize,
-    code_byte: usize,
-    long: usize,
-    code: &[u8],
-) -> Result<(), Refused<VcdKind>>
-    ensures { MatchResult result (λ u. value_faults byte code_byte long (option_map (λ ys. length ys) (listed table.now code.now)) ≡ [])
-        (RefusesOneOf (value_faults byte code_byte long (option_map (λ ys. length ys) (listed table.now code.now)))) }
-{
-    let Some(width) = width_in(table, code) else {
-        return Err(fault(VcdKind::UnknownCode, code_byte));
-    };
-    if long > width {
-        return Err(fault(VcdKind::WidthMismatch, byte));
-    }
-    Ok(())
-}
-
 // A value of the variables of a code.
-fn add_value(
+fn give_value(
     window: Window,
     now: u64,
     table: &mut IndexMap<&[u8], Vec<Tally>>,
+    places: (usize, usize),
     bits: &[u8],
     code: &[u8],
-) {
-    if let Some(tallies) = table.get_mut(code) {
-        give(tallies, window, now, bits);
+) -> Result<(), Refused<VcdKind>>
+    requires { now < 2 ^ 60 }
+    ensures { MatchResult result
+        (λ u. IsGiven window now code.now bits.now (listed table.old) (listed table.new) × (value_faults places.0 places.1 (length bits.now) (option_map (λ ys. length ys) (listed table.old code.now)) ≡ []))
+        (RefusesOneOf (value_faults places.0 places.1 (length bits.now) (option_map (λ ys. length ys) (listed table.old code.now)))) }
+{
+    let (byte, code_byte) = places;
+    let Some(tallies) = table.get_mut(code) else {
+        return Err(fault(VcdKind::UnknownCode, code_byte));
+    };
+    if bits.len() > tallies.len() {
+        return Err(fault(VcdKind::WidthMismatch, byte));
     }
+    give(tallies, window, now, bits);
+    Ok(())
+}
+
+// A real value, which gives no bit.
+fn pass_real(
+    table: &IndexMap<&[u8], Vec<Tally>>,
+    code_byte: usize,
+    code: &[u8],
+) -> Result<(), Refused<VcdKind>>
+    ensures { (byte : ℕ) → MatchResult result (λ u. value_faults byte code_byte 0 (option_map (λ ys. length ys) (listed table.now code.now)) ≡ [])
+        (RefusesOneOf (value_faults byte code_byte 0 (option_map (λ ys. length ys) (listed table.now code.now)))) }
+{
+    if table.contains_key(code) {
+        return Ok(());
+    }
+    Err(fault(VcdKind::UnknownCode, code_byte))
 }
 
 fn add_item(
@@ -74,31 +80,28 @@ fn add_item(
     now: &mut u64,
     table: &mut IndexMap<&[u8], Vec<Tally>>,
 ) -> Result<(), Refused<VcdKind>>
-    ensures { (all : List written.Declaration) (items : List written.Item) → Stands window all items now.old (listed table.old)
+    requires { now.old < 2 ^ 60 }
+    ensures few { now.new < 2 ^ 60 }
+    ensures added { (all : List written.Declaration) (items : List written.Item) → Stands window all items now.old (listed table.old)
         → MatchResult result (λ u. Stands window all (items ++ item_seen item.now ∷ []) now.new (listed table.new) × (item_faults all (end_of items, item_seen item.now) ≡ []))
         (RefusesOneOf (item_faults all (end_of items, item_seen item.now))) }
 {
     match item {
-        Item::Nothing => {}
+        Item::Nothing => Ok(()),
         Item::Instant { byte, digits } => {
             *now = time_of(*byte, *now, digits)?;
+            Ok(())
         }
         Item::Value {
             byte,
             code_byte,
             bits,
             code,
-        } => {
-            is_for(table, *byte, *code_byte, bits.len(), code)?;
-            add_value(window, *now, table, bits, code);
-        }
+        } => give_value(window, *now, table, (*byte, *code_byte), bits, code),
         Item::Real {
-            byte,
-            code_byte,
-            code,
-        } => is_for(table, *byte, *code_byte, 0, code)?,
+            code_byte, code, ..
+        } => pass_real(table, *code_byte, code),
     }
-    Ok(())
 }
 
 // The next item, if a word is left.
@@ -118,7 +121,8 @@ pub fn count_items(
     table: &mut IndexMap<&[u8], Vec<Tally>>,
     words: &mut Words<'_>,
 ) -> Result<u64, Refused<VcdKind>>
-    ensures { (all : List written.Declaration) → ((c : List ℕ) → listed table.old c ≡ option_map fresh (width_of all c))
+    ensures few { IfOk result (λ now. now < 2 ^ 60) }
+    ensures counted { (all : List written.Declaration) → ((c : List ℕ) → listed table.old c ≡ option_map fresh (width_of all c))
         → MatchResult result (λ now. IsReached window all words.old.text.now (read_of words.old) (length (spaced.words words.old.text.now)) now (listed table.new)) (StopsBy all words.old.text.now (read_of words.old)) }
 {
     let mut now: u64 = 0;
