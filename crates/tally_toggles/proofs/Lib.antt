@@ -7,3 +7,6 @@ pub mod ItemLaws
 pub mod StandLaws
 pub mod PathLaws
 pub mod GiveLaws
+pub mod ReadLaws
+pub mod DeclareLaws
+pub mod HeaderLaws

@@ -10,4 +10,5 @@ pub mod Ticks
 pub mod Tallies
 pub mod Seen
 pub mod Lines
+pub mod Header
 pub mod Walk

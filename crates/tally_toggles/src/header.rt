@@ -1,10 +1,12 @@
 // What a dump's header says of its variables.
 ghost use Rattle.std.specs.Prelude.{◌≡◌, ◌++◌, ◌∷◌, [], ℕ, List, IfOk, OnOk, MatchResult, map, option_map};
-ghost use Rattle.tally_toggles.specs.Faults.{header_faults, scope_faults, variable_faults, width_of};
+ghost use Rattle.tally_toggles.specs.Faults.{header_faults, scope_faults, variable_faults};
+ghost use Rattle.tally_toggles.specs.Header.{section_faults, Knows};
 ghost use Rattle.tally_toggles.specs.Paths.{open_paths, paths_in};
 ghost use Rattle.tally_toggles.specs.Seen.{RefusesOneOf};
-ghost use Rattle.tally_toggles.specs.Tallies.{fresh, listed};
+ghost use Rattle.tally_toggles.specs.Tallies.{listed};
 ghost use Rattle.vcd_form.specs.Seen.{section_seen};
+ghost use Rattle.vcd_form.specs.Written as written;
 ghost use Rattle.vcd_model.specs.Inputs.{all_declared, has_scope, is_at, opens_at, scopes_after};
 
 use crate::faults::fault;
@@ -17,20 +19,38 @@ use std::alloc::Global;
 use vcd_form::Section;
 use vcd_model::VcdKind;
 
+// The variables of a section behind others, or a fault of it.
+fn add_section<'t>(
+    alloc: Global,
+    table: &mut IndexMap<&'t [u8], Vec<Tally>>,
+    section: &Section<'t>,
+) -> Result<(), Refused<VcdKind>>
+    ensures { (before rest : List written.Section) → Knows (all_declared before) (listed table.old)
+        → MatchResult result
+        (λ u. Knows (all_declared (before ++ section_seen section.now ∷ [])) (listed table.new) × (section_faults (before ++ section_seen section.now ∷ rest) (section_seen section.now) ≡ []))
+        (RefusesOneOf (section_faults (before ++ section_seen section.now ∷ rest) (section_seen section.now))) }
+{
+    match section {
+        Section::Declares(declaration) => declare(alloc, table, declaration),
+        Section::Remark => Ok(()),
+        Section::Timescale(_) => Ok(()),
+        Section::Enters(_) => Ok(()),
+        Section::Leaves => Ok(()),
+    }
+}
+
 // The variables of all sections.
 fn variables_of<'t>(
     alloc: Global,
     sections: &[Section<'t>],
 ) -> Result<IndexMap<&'t [u8], Vec<Tally>>, Refused<VcdKind>>
     ensures { MatchResult result
-        (λ table. ((c : List ℕ) → listed table c ≡ option_map fresh (width_of (all_declared (map section_seen sections.now)) c)) × (variable_faults (map section_seen sections.now) ≡ []))
+        (λ table. Knows (all_declared (map section_seen sections.now)) (listed table) × (variable_faults (map section_seen sections.now) ≡ []))
         (RefusesOneOf (variable_faults (map section_seen sections.now))) }
 {
     let mut table: IndexMap<&[u8], Vec<Tally>> = IndexMap::new(alloc);
     for section in sections {
-        if let Section::Declares(declaration) = section {
-            declare(alloc, &mut table, declaration)?;
-        }
+        add_section(alloc, &mut table, section)?;
     }
     Ok(table)
 }
@@ -100,7 +120,7 @@ pub fn table_of<'t>(
     definitions: usize,
 ) -> Result<IndexMap<&'t [u8], Vec<Tally>>, Refused<VcdKind>>
     ensures { MatchResult result
-        (λ table. ((c : List ℕ) → listed table c ≡ option_map fresh (width_of (all_declared (map section_seen sections.now)) c)) × (header_faults (option_map (λ s. s.now) scope.entry) definitions (map section_seen sections.now) ≡ []))
+        (λ table. Knows (all_declared (map section_seen sections.now)) (listed table) × (header_faults (option_map (λ s. s.now) scope.entry) definitions (map section_seen sections.now) ≡ []))
         (RefusesOneOf (header_faults (option_map (λ s. s.now) scope.entry) definitions (map section_seen sections.now))) }
 {
     let table = variables_of(alloc, sections)?;

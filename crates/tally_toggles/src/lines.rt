@@ -145,12 +145,13 @@ fn push_declared(
         → lines.Ends told.now.window now told.now.end → paths_in paths.now ≡ open_paths scopes
         → OnOk result (text.new.items ≡ text.old.items ++ flat_map (def.net_line items told.now.window.from told.now.end) (map (nets.net_of scopes (declaration_seen declaration.now)) (range_with_len 0 declaration.now.width))) }
 {
-    match table.get(declaration.code) {
-        Some(tallies) if tallies.len() == declaration.width as usize => {
-            push_variable(text, told, paths, declaration, tallies)
-        }
-        _ => Ok(()),
+    let Some(tallies) = table.get(declaration.code) else {
+        return Ok(());
+    };
+    if tallies.len() != declaration.width as usize {
+        return Ok(());
     }
+    push_variable(text, told, paths, declaration, tallies)
 }
 
 // The lines of a section, and how many they are.

@@ -1,7 +1,8 @@
 // The variables of a header by their codes, with a tally for each bit.
-ghost use Rattle.std.specs.Prelude.{◌≡◌, ◌++◌, ◌∷◌, [], ◌&&◌, ℕ, List, MatchResult, OnOk, Some, bytes_eq, length, option_map, if◌then◌else◌};
+ghost use Rattle.std.specs.Prelude.{◌≡◌, ◌++◌, ◌∷◌, [], ℕ, List, MatchResult, OnOk, Some, bytes_eq, length, option_map, if◌then◌else◌};
+ghost use Rattle.tally_toggles.specs.Header.{Knows};
 ghost use Rattle.tally_toggles.specs.Nets as def;
-ghost use Rattle.tally_toggles.specs.Faults.{declared_faults, is_width, width_of};
+ghost use Rattle.tally_toggles.specs.Faults.{declared_faults};
 ghost use Rattle.tally_toggles.specs.Seen.{RefusesOneOf};
 ghost use Rattle.tally_toggles.specs.Tallies.{fresh, listed};
 ghost use Rattle.vcd_form.specs.Seen.{declaration_seen};
@@ -55,9 +56,9 @@ pub fn declare<'t>(
     table: &mut IndexMap<&'t [u8], Vec<Tally>>,
     declaration: &Declaration<'t>,
 ) -> Result<(), Refused<VcdKind>>
-    ensures { (before rest : List written.Declaration) → ((c : List ℕ) → listed table.old c ≡ option_map fresh (width_of before c))
+    ensures { (before rest : List written.Declaration) → Knows before (listed table.old)
         → MatchResult result
-        (λ u. ((c : List ℕ) → listed table.new c ≡ option_map fresh (width_of (before ++ declaration_seen declaration.now ∷ []) c)) × (declared_faults (before ++ declaration_seen declaration.now ∷ rest) (declaration_seen declaration.now) ≡ []))
+        (λ u. Knows (before ++ declaration_seen declaration.now ∷ []) (listed table.new) × (declared_faults (before ++ declaration_seen declaration.now ∷ rest) (declaration_seen declaration.now) ≡ []))
         (RefusesOneOf (declared_faults (before ++ declaration_seen declaration.now ∷ rest) (declaration_seen declaration.now))) }
 {
     if declaration.width > MOST_BITS {

@@ -1,9 +1,10 @@
 // Times and values behind the header, one after another.
 ghost use Rattle.std.specs.Prelude.{◌≡◌, ◌<◌, ◌≤◌, ◌++◌, ◌∷◌, [], ℕ, List, IfOk, IfSome, MatchResult, length, option_map, ◌^◌};
 ghost use Rattle.sg_time.specs.Spelling.{number_from};
-ghost use Rattle.tally_toggles.specs.Faults.{item_faults, time_faults, value_faults, width_of};
+ghost use Rattle.tally_toggles.specs.Faults.{item_faults, time_faults, value_faults};
+ghost use Rattle.tally_toggles.specs.Header.{Knows};
 ghost use Rattle.tally_toggles.specs.Seen.{NextRead, RefusesOneOf};
-ghost use Rattle.tally_toggles.specs.Tallies.{fresh, listed, IsGiven, Stands};
+ghost use Rattle.tally_toggles.specs.Tallies.{listed, IsGiven, Stands};
 ghost use Rattle.tally_toggles.specs.Values.{end_of};
 ghost use Rattle.tally_toggles.specs.Walk.{IsReached, StopsBy};
 ghost use Rattle.vcd_form.specs.Reading.{read_of};
@@ -122,7 +123,7 @@ pub fn count_items(
     words: &mut Words<'_>,
 ) -> Result<u64, Refused<VcdKind>>
     ensures few { IfOk result (λ now. now < 2 ^ 60) }
-    ensures counted { (all : List written.Declaration) → ((c : List ℕ) → listed table.old c ≡ option_map fresh (width_of all c))
+    ensures counted { (all : List written.Declaration) → Knows all (listed table.old)
         → MatchResult result (λ now. IsReached window all words.old.text.now (read_of words.old) (length (spaced.words words.old.text.now)) now (listed table.new)) (StopsBy all words.old.text.now (read_of words.old)) }
 {
     let mut now: u64 = 0;
