@@ -10,3 +10,4 @@ pub mod GiveLaws
 pub mod ReadLaws
 pub mod DeclareLaws
 pub mod HeaderLaws
+pub mod LineLaws
