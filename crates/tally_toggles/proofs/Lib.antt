@@ -11,3 +11,4 @@ pub mod ReadLaws
 pub mod DeclareLaws
 pub mod HeaderLaws
 pub mod LineLaws
+pub mod FaultLaws
