@@ -53,20 +53,20 @@ counted_more w test t = elim (le_or_lt w.to t) [
       let e : counted w test (suc t) ≡ counted w test t = ap (λ n. length (filter test (range_with_len w.from n))) same in
       omega (arith, e, none)
   | inr below ↦ elim (le_or_lt w.from t) [
-      | inl inside ↦
-          let next : min (suc t) w.to - w.from ≡ suc (t - w.from) = omega (arith, below, inside) in
-          let this : min t w.to - w.from ≡ t - w.from = omega (arith, below) in
-          let one = same_of (test t) 1 (overlap w t (suc t)) (omega (arith, below, inside)) in
-          let e : counted w test (suc t) ≡ length (filter test (range_with_len w.from (suc (t - w.from)))) = ap (λ n. length (filter test (range_with_len w.from n))) next in
-          let f : counted w test t ≡ length (filter test (range_with_len w.from (t - w.from))) = ap (λ n. length (filter test (range_with_len w.from n))) this in
-          let g = more test w.from (t - w.from) t (omega (arith, inside)) in
-          omega (arith, e, f, g, one)
-      | inr before ↦
-          let same : min (suc t) w.to - w.from ≡ min t w.to - w.from = omega (arith, before) in
-          let none = none_of (test t) (overlap w t (suc t)) (omega (arith, before)) in
-          let e : counted w test (suc t) ≡ counted w test t = ap (λ n. length (filter test (range_with_len w.from n))) same in
-          omega (arith, e, none)
-    ]
+    | inl inside ↦
+        let next : min (suc t) w.to - w.from ≡ suc (t - w.from) = omega (arith, below, inside) in
+        let this : min t w.to - w.from ≡ t - w.from = omega (arith, below) in
+        let one = same_of (test t) 1 (overlap w t (suc t)) (omega (arith, below, inside)) in
+        let e : counted w test (suc t) ≡ length (filter test (range_with_len w.from (suc (t - w.from)))) = ap (λ n. length (filter test (range_with_len w.from n))) next in
+        let f : counted w test t ≡ length (filter test (range_with_len w.from (t - w.from))) = ap (λ n. length (filter test (range_with_len w.from n))) this in
+        let g = more test w.from (t - w.from) t (omega (arith, inside)) in
+        omega (arith, e, f, g, one)
+    | inr before ↦
+        let same : min (suc t) w.to - w.from ≡ min t w.to - w.from = omega (arith, before) in
+        let none = none_of (test t) (overlap w t (suc t)) (omega (arith, before)) in
+        let e : counted w test (suc t) ≡ counted w test t = ap (λ n. length (filter test (range_with_len w.from n))) same in
+        omega (arith, e, none)
+  ]
 ]
 
 both_of : (b : Bool) (k m n : ℕ) → k + m ≡ n → where_true b k + where_true b m ≡ where_true b n

@@ -100,13 +100,16 @@ module _ (w : Window) (all : List Declaration) (is : List Item) (now byte code_b
 
   own : now ≡ end_of is → AreGiven w now bits ys zs → (o : Option ℕ) → AreCounted w now code is o (Some ys) → AreCounted w now code (is ++ this ∷ []) o (Some zs)
   own e g None a = absurd a
-  own e g (Some width) a = (g.same ∙ a.0, (λ k lt.
-      (let counted = g.given k (omega (arith, lt, a.0)) (value_at (given code width k is)) (a.1 k lt) in
-      let wide = subst (λ n. IsCounted w now (with_value now (slice_index_or (bits_of n bits) k X) (value_at (given code width k is))) (tally_at zs k)) a.0 counted in
-      let more : value_at (given code width k (is ++ this ∷ [])) ≡ with_value now (slice_index_or (bits_of width bits) k X) (value_at (given code width k is)) =
-      ap value_at (own-given width k) ∙ value-more (given code width k is) (end_of is) (slice_index_or (bits_of width bits) k X)
-      ∙ ap (λ n. with_value n (slice_index_or (bits_of width bits) k X) (value_at (given code width k is))) (sym e) in
-      subst (λ v. IsCounted w now v (tally_at zs k)) (sym more) wide)))
+  own e g (Some width) a = (
+    g.same ∙ a.0,
+    (λ k lt.
+        (let counted = g.given k (omega (arith, lt, a.0)) (value_at (given code width k is)) (a.1 k lt) in
+        let wide = subst (λ n. IsCounted w now (with_value now (slice_index_or (bits_of n bits) k X) (value_at (given code width k is))) (tally_at zs k)) a.0 counted in
+        let more : value_at (given code width k (is ++ this ∷ [])) ≡ with_value now (slice_index_or (bits_of width bits) k X) (value_at (given code width k is)) =
+        ap value_at (own-given width k) ∙ value-more (given code width k is) (end_of is) (slice_index_or (bits_of width bits) k X)
+        ∙ ap (λ n. with_value n (slice_index_or (bits_of width bits) k X) (value_at (given code width k is))) (sym e) in
+        subst (λ v. IsCounted w now v (tally_at zs k)) (sym more) wide)),
+  )
 
   pub stands-value : (t t' : List ℕ → Option (List Tally)) → Stands w all is now t → t code ≡ Some ys → ((d : List ℕ) → t' d ≡ (if bytes_eq code d then Some zs else t d)) → AreGiven w now bits ys zs → Stands w all (is ++ this ∷ []) now t'
   stands-value t t' h at up g = record {

@@ -78,12 +78,7 @@ fn is_plain(width: u32, range: Option<&[u8]>) -> bool
 }
 
 // The index of a bit where it has one.
-fn push_bit(
-    text: &mut Vec<u8>,
-    width: u32,
-    range: Option<&[u8]>,
-    bit: u32,
-) -> Result<(), NoMemory>
+fn push_bit(text: &mut Vec<u8>, width: u32, range: Option<&[u8]>, bit: u32) -> Result<(), NoMemory>
     ensures { OnOk result (text.new.items ≡ text.old.items ++ lines.index_part width (option_map (λ r. r.now) range.entry) bit) }
 {
     if is_plain(width, range) {

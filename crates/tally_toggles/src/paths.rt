@@ -33,11 +33,7 @@ fn enter(alloc: Global, paths: &mut Vec<Vec<u8>>, name: &[u8]) -> Result<(), NoM
 }
 
 /// The paths behind a section.
-pub fn pass(
-    alloc: Global,
-    paths: &mut Vec<Vec<u8>>,
-    section: &Section<'_>,
-) -> Result<(), NoMemory>
+pub fn pass(alloc: Global, paths: &mut Vec<Vec<u8>>, section: &Section<'_>) -> Result<(), NoMemory>
     ensures { (scopes : List (List ℕ)) → paths_in paths.old.items ≡ open_paths scopes → OnOk result (paths_in paths.new.items ≡ open_paths (scopes_after scopes (section_seen section.now))) }
 {
     match section {

@@ -100,7 +100,9 @@ fn add_item(
             code,
         } => give_value(window, *now, table, (*byte, *code_byte), bits, code),
         Item::Real {
-            code_byte, code, ..
+            code_byte,
+            code,
+            ..
         } => pass_real(table, *code_byte, code),
     }
 }

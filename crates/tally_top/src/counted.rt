@@ -72,7 +72,13 @@ fn text_answer(
 {
     match read_report(alloc, report) {
         Ok(all) => waived(alloc, asked.waive.unwrap_or(""), &all, waive),
-        Err(Unread::Line(number)) => refused_answer(alloc, "report", asked.report, number, "Syntax"),
+        Err(Unread::Line(number)) => refused_answer(
+            alloc,
+            "report",
+            asked.report,
+            number,
+            "Syntax",
+        ),
         Err(Unread::NoMemory) => Err(NoMemory),
     }
 }

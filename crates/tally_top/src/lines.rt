@@ -6,7 +6,8 @@ use itoa::Buffer;
 use sg_text::NoMemory;
 use std::alloc::Global;
 
-pub const USAGE: &str = "usage: tally violations REPORT [--waive FILE] | tally toggles DUMP [--scope PATH] [--from T] [--to T]";
+pub const USAGE: &str =
+    "usage: tally violations REPORT [--waive FILE] | tally toggles DUMP [--scope PATH] [--from T] [--to T]";
 
 /// A text on a line of its own.
 pub fn line_of(alloc: Global, before: &str, name: &str) -> Result<Vec<u8>, NoMemory>

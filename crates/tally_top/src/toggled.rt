@@ -1,5 +1,6 @@
 // The answer where the toggles of a dump are asked for.
-ghost use Rattle.std.specs.Prelude.{◌≡◌, ◌∷◌, ◌<◌, ◌^◌, [], List, IfOk, IfSome, Some};
+ghost use Rattle.std.specs.Prelude.{◌≡◌, ◌∷◌, ◌<◌, ◌^◌, [], List, IfOk, IfSome, Some, option_map};
+ghost use Rattle.tally_toggles.specs.Seen.{wanted_seen};
 ghost use Rattle.sg_io.specs.Faults.{Cause};
 ghost use Rattle.sg_io.specs.Files.{File};
 ghost use Rattle.tally_top.specs.Answer.{AreToggles, IsDumpAnswer, kind_text};
@@ -30,19 +31,25 @@ fn kind_word(kind: VcdKind) -> &'static str
     }
 }
 
-fn wanted_of<'a>(asked: &AskedToggles<'a>) -> Wanted<'a> {
+fn bytes_of(word: Option<&str>) -> Option<&[u8]>
+    ensures { option_map (λ b. b.now) result ≡ option_map (λ w. w.now) word.entry }
+{
+    Some(word?.as_bytes())
+}
+
+fn wanted_of<'a>(asked: &AskedToggles<'a>) -> Wanted<'a>
+    ensures wanted { wanted_seen result ≡ record { scope = (toggles_seen asked.now).scope; from = asked.now.from; to = asked.now.to } }
+    ensures from { result.from ≡ asked.now.from }
+    ensures to { result.to ≡ asked.now.to }
+{
     Wanted {
-        scope: asked.scope.map(|scope| scope.as_bytes()),
+        scope: bytes_of(asked.scope),
         from: asked.from,
         to: asked.to,
     }
 }
 
-fn dump_answer(
-    alloc: Global,
-    asked: &AskedToggles<'_>,
-    text: &[u8],
-) -> Result<Answer, NoMemory>
+fn dump_answer(alloc: Global, asked: &AskedToggles<'_>, text: &[u8]) -> Result<Answer, NoMemory>
     requires from { IfSome asked.now.from (λ t. t < 2 ^ 60) }
     requires to { IfSome asked.now.to (λ t. t < 2 ^ 60) }
     ensures { IfOk result (λ a. IsDumpAnswer (toggles_seen asked.now) text.now (answer_seen a)) }
