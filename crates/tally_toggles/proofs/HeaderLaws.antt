@@ -2,8 +2,8 @@
 use Rattle.std.specs.Prelude.{ℕ, suc, ◌+◌, ◌≡◌, ◌<◌, ◌≤◌, ◌||◌, Bool, true, false, not, List, [], ◌∷◌, ◌++◌, length, map, drop, take, filter_map, flat_map, slice_index_or, option_map, bytes_eq, Option, Some, None, MatchResult, Result, Ok, Err, refl}
 use Rattle.std.specs.Global.{Vec}
 use Rattle.std.specs.List.{cons_option, list_any}
-use Rattle.std.proofs.Common.{sym, ◌∙◌, ap, subst, arith, map-append, drop-cons, take-append-drop}
-use Rattle.std.proofs.lemmas.List.{drop_all, take_all, take_more}
+use Rattle.std.proofs.Common.{sym, ◌∙◌, ap, subst, arith, drop-cons, take-append-drop}
+use Rattle.std.proofs.lemmas.List.{drop_all, map-append, take_all, take_more}
 use Rattle.std.proofs.lemmas.List.Elements.{filter_map-append}
 use Rattle.sg_text.specs.declared.refusals.Refused.{Refused}
 use Rattle.vcd_form.specs.Written.{Declaration, Section, declares, enters, leaves, remark, timescale}
@@ -107,13 +107,13 @@ module _ {A : Type 0} (seen : A → Section) (xs : List A) where
       → (opens_at scope k.scopes (seen (slice_index_or xs n d)) || list_any (λ (p : List (List ℕ) × Section). opens_at scope p.0 p.1) (with_scopes (scopes_after k.scopes (seen (slice_index_or xs n d))) (map seen (drop (suc n) xs)))) ≡ has_scope scope (map seen xs)
   sought-so scope n d texts k lt = sym (ap (λ l. list_any (λ (p : List (List ℕ) × Section). opens_at scope p.0 p.1) (with_scopes k.scopes (map seen l))) (drop-cons xs n d lt)) ∙ k.left
 
-  pub sought-found : (scope : List ℕ) (n : ℕ) (d : A) (texts : List (List ℕ)) (yes : Bool) (k : IsSought scope n texts) → n < length xs → yes ≡ true → yes ≡ opens_at scope k.scopes (seen (slice_index_or xs n d)) → true ≡ has_scope scope (map seen xs)
-  sought-found scope n d texts yes k lt e f =
+  pub sought-found : (scope : List ℕ) (n : ℕ) (d : A) (texts : List (List ℕ)) (found : Bool) (k : IsSought scope n texts) → n < length xs → found ≡ true → found ≡ opens_at scope k.scopes (seen (slice_index_or xs n d)) → true ≡ has_scope scope (map seen xs)
+  sought-found scope n d texts found k lt e f =
       ap (λ b. b || list_any (λ (p : List (List ℕ) × Section). opens_at scope p.0 p.1) (with_scopes (scopes_after k.scopes (seen (slice_index_or xs n d))) (map seen (drop (suc n) xs)))) (sym e ∙ f) ∙ sought-so scope n d texts k lt
 
-  pub sought-next : (scope : List ℕ) (n : ℕ) (d : A) (texts texts' : List (List ℕ)) (yes : Bool) (k : IsSought scope n texts) → n < length xs → yes ≡ false → yes ≡ opens_at scope k.scopes (seen (slice_index_or xs n d))
+  pub sought-next : (scope : List ℕ) (n : ℕ) (d : A) (texts texts' : List (List ℕ)) (found : Bool) (k : IsSought scope n texts) → n < length xs → found ≡ false → found ≡ opens_at scope k.scopes (seen (slice_index_or xs n d))
       → texts' ≡ open_paths (scopes_after k.scopes (seen (slice_index_or xs n d))) → IsSought scope (n + 1) texts'
-  sought-next scope n d texts texts' yes k lt e f p =
+  sought-next scope n d texts texts' found k lt e f p =
       let next : suc n ≡ n + 1 = omega arith in
       record {
         scopes = scopes_after k.scopes (seen (slice_index_or xs n d));

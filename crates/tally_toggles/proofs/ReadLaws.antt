@@ -44,7 +44,7 @@ Adds w all i now now' t t' result = (items : List Item) → Stands w all items n
 
 module _ (w : Window) (all : List Declaration) (text : List ℕ) (n m : ℕ) where
   pub reached-first : (now : ℕ) (t : Table) → m ≡ n → Stands w all [] now t → IsReached w all text n m now t
-  reached-first now t e h = record { items = []; spelled = sym e; faultless = refl; stands = h }
+  reached-first now t e h = record { items = []; spelled = e; faultless = refl; stands = h }
 
   pub memory-stops : StopsBy all text n refused.NoMemory
   memory-stops = stops_fault [] n refl tt

@@ -1,5 +1,5 @@
 -- What is counted of all items, one more.
-use Rattle.std.specs.Prelude.{ℕ, ◌≡◌, ◌≤◌, ◌<◌, ◌^◌, Bool, true, false, nat_le, nat_lt, bytes_eq, List, [], ◌∷◌, ◌++◌, length, map, filter, replicate, option_map, slice_index_or, Option, Some, None, refl, if◌then◌else◌}
+use Rattle.std.specs.Prelude.{ℕ, zero, suc, ◌≡◌, ◌≤◌, ◌<◌, ◌^◌, Bool, true, false, nat_le, nat_lt, bytes_eq, List, [], ◌∷◌, ◌++◌, length, map, filter, replicate, option_map, slice_index_or, Option, Some, None, refl, if◌then◌else◌}
 use Rattle.std.proofs.Common.{sym, ◌∙◌, ap, subst, arith}
 use Rattle.std.proofs.Math.Path.{fun_ext}
 use Rattle.std.proofs.lemmas.Slice.Eq.{bytes_eq-Decides}
@@ -32,12 +32,14 @@ last-more v [] now x t = by (nat_le now t)
     by : (b : Bool) → last_or v (map second (if b then (now, x) ∷ [] else [])) ≡ (if b then x else v)
     by true = refl
     by false = refl
-last-more v (g ∷ gs) now x t = by (nat_le g.0 t)
+last-more v (g ∷ gs) now x t = by (nat_le g.0 t) (last-more g.1 gs now x t) (last-more v gs now x t)
   where
-    by : (b : Bool) → last_or v (map second (if b then g ∷ filter (until t) (gs ++ (now, x) ∷ []) else filter (until t) (gs ++ (now, x) ∷ [])))
+    by : (b : Bool) → last_or g.1 (map second (filter (until t) (gs ++ (now, x) ∷ []))) ≡ (if nat_le now t then x else last_or g.1 (map second (filter (until t) gs)))
+        → last_or v (map second (filter (until t) (gs ++ (now, x) ∷ []))) ≡ (if nat_le now t then x else last_or v (map second (filter (until t) gs)))
+        → last_or v (map second (if b then g ∷ filter (until t) (gs ++ (now, x) ∷ []) else filter (until t) (gs ++ (now, x) ∷ [])))
         ≡ (if nat_le now t then x else last_or v (map second (if b then g ∷ filter (until t) gs else filter (until t) gs)))
-    by true = last-more g.1 gs now x t
-    by false = last-more v gs now x t
+    by true e f = e
+    by false e f = f
 
 value-more : (gs : List (ℕ × Value)) (now : ℕ) (x : Value) → value_at (gs ++ (now, x) ∷ []) ≡ with_value now x (value_at gs)
 value-more gs now x = fun_ext (λ t. last-more X gs now x t)
@@ -46,7 +48,7 @@ value-more gs now x = fun_ext (λ t. last-more X gs now x t)
 
 module _ (w : Window) (now later : ℕ) (code : List ℕ) (is js : List Item) where
   -- what is counted of each bit carries over
-  Carries : Type 0
+  abbrev Carries : Type 0
   Carries = (width k : ℕ) (y : Tally) → IsCounted w now (value_at (given code width k is)) y → IsCounted w later (value_at (given code width k js)) y
 
   carried : Carries → (o : Option ℕ) (t : Option (List Tally)) → AreCounted w now code is o t → AreCounted w later code js o t
@@ -131,7 +133,8 @@ module _ (w : Window) (all : List Declaration) (is : List Item) (now byte code_b
 -- ---- widths
 
 length-fresh : (n : ℕ) (y : Tally) → length (replicate n y) ≡ n
-length-fresh n y = grind arith
+length-fresh zero y = refl
+length-fresh (suc n) y = ap (λ (m : ℕ). suc m) (length-fresh n y)
 
 -- a code's variables have as many bits as it has tallies
 pub widths-same : (w : Window) (now : ℕ) (code : List ℕ) (is : List Item) (o : Option ℕ) (t : Option (List Tally)) → AreCounted w now code is o t → option_map (λ (ys : List Tally). length ys) t ≡ o
