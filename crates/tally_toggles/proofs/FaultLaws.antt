@@ -12,7 +12,7 @@ use Rattle.tally_toggles.proofs.Refusals.{head-refused, none-test, refused-left,
 lt-true : (a b : ℕ) → a < b → nat_lt a b ≡ true
 lt-true a b h = grind (arith, h)
 
-lt-false : (a b : ℕ) → b ≤ a → nat_lt a b ≡ false
+pub lt-false : (a b : ℕ) → b ≤ a → nat_lt a b ≡ false
 lt-false a b h = grind (arith, h)
 
 module _ (byte before n : ℕ) where
