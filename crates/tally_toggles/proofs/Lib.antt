@@ -12,3 +12,4 @@ pub mod DeclareLaws
 pub mod HeaderLaws
 pub mod LineLaws
 pub mod FaultLaws
+pub mod PieceLaws
