@@ -1,5 +1,5 @@
 // A case: the files that are held, the calls that fail, and the words of a command line.
-use fit_top::{MemoryFolders, top};
+use fit_top::{MemoryFolders, Status, top};
 use sg_io::{MemoryShelf, MemorySink};
 use std::alloc::Global;
 
@@ -61,6 +61,17 @@ fn show_text(out: &mut String, bytes: &[u8]) -> anyhow::Result<()> {
         out.push_str("‖\n")?;
     }
     Ok(())
+}
+
+// Runs the program. What its clauses say isn't looked at here.
+fn status_of(
+    alloc: Global,
+    words: &[String],
+    shelf: &mut MemoryShelf,
+    folders: &mut MemoryFolders,
+    report: &mut MemorySink,
+) -> Status {
+    top(alloc, words, shelf, folders, report)
 }
 
 impl Case {
@@ -166,7 +177,7 @@ impl Case {
         let mut shelf = self.shelf(alloc)?;
         let mut folders = self.folders(alloc)?;
         let mut report = self.report(alloc)?;
-        let status = top(alloc, &self.words, &mut shelf, &mut folders, &mut report).code();
+        let status = status_of(alloc, &self.words, &mut shelf, &mut folders, &mut report).code();
         writeln!(out, "status {status}")?;
         show_text(out, report.bytes())?;
         for name in &self.made {

@@ -1,7 +1,7 @@
 // A case: the files that are held, the calls that fail, and the words of a command line.
 use sg_io::{MemoryShelf, MemorySink};
 use std::alloc::Global;
-use tally_top::top;
+use tally_top::{Status, top};
 
 #[derive(Debug, Drop)]
 struct File {
@@ -17,6 +17,16 @@ pub struct Case {
     words: Vec<String>,
     shelf_failing: Vec<u64>,
     report_failing: Vec<u64>,
+}
+
+// Runs the program. What its clauses say isn't looked at here.
+fn status_of(
+    alloc: Global,
+    words: &[String],
+    shelf: &mut MemoryShelf,
+    report: &mut MemorySink,
+) -> Status {
+    top(alloc, words, shelf, report)
 }
 
 impl Case {
@@ -80,7 +90,7 @@ impl Case {
             report.fail_at(*call, 0)?;
         }
         let title = &self.title;
-        let status = top(alloc, &self.words, &mut shelf, &mut report).code();
+        let status = status_of(alloc, &self.words, &mut shelf, &mut report).code();
         writeln!(out, "case {title}\nstatus {status}")?;
         out.push_str(std::str::from_utf8(report.bytes()).unwrap_or("?\n"))?;
         Ok(())
