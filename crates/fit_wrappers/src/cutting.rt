@@ -1,4 +1,5 @@
 // Instances of the top that are cut out: what they drive becomes inputs of the top.
+use crate::inlining::push_range;
 use fit_changes::{Changes, Rule};
 use fit_items::{
     Connection, Direction, Instance, Module, Run, comma_pieces, is_symbol, name_at, pieces_between,
@@ -212,13 +213,16 @@ impl Cutting<'_, '_, '_> {
     // `[left:right]`
     fn range_words(&self, left: i64, right: i64) -> Result<Vec<Word>, NoMemory> {
         let mut words = Vec::new(self.alloc);
-        push_fixed(self.alloc, &mut words, "[", true)?;
-        let mut buffer = Buffer::new();
-        push_fixed(self.alloc, &mut words, buffer.format(left), false)?;
-        push_fixed(self.alloc, &mut words, ":", false)?;
-        push_fixed(self.alloc, &mut words, buffer.format(right), false)?;
-        push_fixed(self.alloc, &mut words, "]", false)?;
+        push_range(self.alloc, &mut words, Some((left, right)))?;
         Ok(words)
+    }
+
+    // The range of an input of so many bits.
+    fn range_for(&self, width: u64) -> Result<Vec<Word>, NoMemory> {
+        match i64::try_from(width.saturating_sub(1)) {
+            Ok(0) | Err(_) => Ok(Vec::new(self.alloc)),
+            Ok(left) => self.range_words(left, 0),
+        }
     }
 
     // How many bits a port, or a select of a net, has.
@@ -279,6 +283,15 @@ impl Cutting<'_, '_, '_> {
         Ok(name)
     }
 
+    // `assign PIECE = NAME;`
+    fn push_assign(&self, piece: Run, name: &[u8], words: &mut Vec<Word>) -> Result<(), NoMemory> {
+        push_fixed(self.alloc, words, "assign", true)?;
+        self.source.push_run(self.alloc, words, piece)?;
+        push_fixed(self.alloc, words, "=", true)?;
+        words.push(Word::name(self.alloc, name, true)?)?;
+        push_fixed(self.alloc, words, ";", false)
+    }
+
     // A new input, and the assignment of it.
     fn cut_piece(
         &self,
@@ -295,15 +308,8 @@ impl Cutting<'_, '_, '_> {
                 .push(kind_of(self.alloc, &[b"NoWidth ", &name])?)?;
             return Ok(());
         };
-        push_fixed(self.alloc, words, "assign", true)?;
-        self.source.push_run(self.alloc, words, piece)?;
-        push_fixed(self.alloc, words, "=", true)?;
-        words.push(Word::name(self.alloc, &name, true)?)?;
-        push_fixed(self.alloc, words, ";", false)?;
-        let range = match i64::try_from(width.saturating_sub(1)) {
-            Ok(0) | Err(_) => Vec::new(self.alloc),
-            Ok(left) => self.range_words(left, 0)?,
-        };
+        self.push_assign(piece, &name, words)?;
+        let range = self.range_for(width)?;
         let is_net = false;
         cuts.inputs.insert(name, Input { range, is_net })?;
         Ok(())

@@ -14,6 +14,7 @@ use fit_library::{
 use indexmap::{IndexMap, IndexSet};
 use sg_text::NoMemory;
 use std::alloc::Global;
+use std::mem;
 use vl_token::{Mark, Symbol, Token};
 
 // Flat modules of more words aren't put in place.
@@ -209,30 +210,32 @@ impl<'f, 't, 'a> Flattening<'f, 't, 'a> {
         making: Making,
         moved: &mut Moved,
     ) -> Result<Option<Flat<'a>>, NoMemory> {
+        let mut making = making;
+        if self.wrappers.contains(&number) {
+            let own = mem::replace(&mut making.moved, Vec::new(self.alloc));
+            moved.insert(number, own)?;
+        }
+        if !making.is_movable || making.words.len() >= MOST {
+            return Ok(None);
+        }
+        let Some(ports) = ports_of(self.alloc, scope)? else {
+            return Ok(None);
+        };
         let Making {
             words,
             parts,
-            moved: own,
             terminals,
-            is_movable,
             ..
         } = making;
-        if self.wrappers.contains(&number) {
-            moved.insert(number, own)?;
-        }
         let Terminals { starts, ends } = terminals;
-        let is_small = words.len() < MOST;
-        match ports_of(self.alloc, scope)? {
-            Some(ports) if is_movable && is_small => Ok(Some(Flat {
-                mark,
-                ports,
-                words,
-                parts,
-                starts,
-                ends,
-            })),
-            _ => Ok(None),
-        }
+        Ok(Some(Flat {
+            mark,
+            ports,
+            words,
+            parts,
+            starts,
+            ends,
+        }))
     }
 
     fn add_item(
@@ -376,25 +379,14 @@ impl<'f, 't, 'a> Flattening<'f, 't, 'a> {
 
 // Adds what stands for an instance.
 fn take_in(alloc: Global, making: &mut Making, inlined: Inlined) -> Result<(), NoMemory> {
-    let Inlined {
-        words,
-        parts,
-        starts,
-        ends,
-    } = inlined;
-    for word in words {
-        making.words.push(word)?;
+    let mut inlined = inlined;
+    for part in &inlined.parts {
+        making.moved.push(copy_block_statement(alloc, part)?)?;
     }
-    for part in parts {
-        making.moved.push(copy_block_statement(alloc, &part)?)?;
-        making.parts.push(part)?;
-    }
-    for name in starts {
-        making.terminals.starts.push(name)?;
-    }
-    for name in ends {
-        making.terminals.ends.push(name)?;
-    }
+    making.words.append(&mut inlined.words)?;
+    making.parts.append(&mut inlined.parts)?;
+    making.terminals.starts.append(&mut inlined.starts)?;
+    making.terminals.ends.append(&mut inlined.ends)?;
     Ok(())
 }
 

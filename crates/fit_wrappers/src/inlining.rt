@@ -4,7 +4,7 @@ use fit_library::{BlockStatement, Flat, Port, Scope, Source, Taken, Word, WordKi
 use indexmap::IndexMap;
 use itoa::Buffer;
 use sg_text::NoMemory;
-use std::alloc::Global;
+use std::alloc::{AllocError, AllocFailed, Global};
 use vl_token::{Mark, TokenKind};
 
 /// The words and the statements of a specify block that stand for an instance.
@@ -22,6 +22,31 @@ pub struct Host<'s, 't, 'a> {
     pub source: Source<'s, 't, 'a>,
     pub scope: &'s Scope<'a>,
     pub mark: Mark,
+}
+
+// What ends the work on an instance: it can't give way, or there is no memory.
+#[derive(Clone, Copy)]
+enum Stop {
+    Stays,
+    NoMemory,
+}
+
+impl From<AllocError> for Stop {
+    fn from(_: AllocError) -> Self {
+        Stop::NoMemory
+    }
+}
+
+impl<T: Drop> From<AllocFailed<T>> for Stop {
+    fn from(_: AllocFailed<T>) -> Self {
+        Stop::NoMemory
+    }
+}
+
+impl From<NoMemory> for Stop {
+    fn from(_: NoMemory) -> Self {
+        Stop::NoMemory
+    }
 }
 
 // What stands for a name: another name, or a constant.
@@ -131,17 +156,17 @@ fn name_for(
     taken: &mut Taken,
     instance: &[u8],
     name: &[u8],
-) -> Result<Option<Vec<u8>>, NoMemory> {
+) -> Result<Vec<u8>, Stop> {
     if taken.take(alloc, name)? {
-        return Ok(Some(Vec::from_slice(alloc, name)?));
+        return Ok(Vec::from_slice(alloc, name)?);
     }
     let mut longer = Vec::from_slice(alloc, instance)?;
     longer.push(b'$')?;
     longer.extend_from_slice(name)?;
     if taken.take(alloc, &longer)? {
-        Ok(Some(longer))
+        Ok(longer)
     } else {
-        Ok(None)
+        Err(Stop::Stays)
     }
 }
 
@@ -151,7 +176,8 @@ fn push_number(words: &mut Vec<Word>, alloc: Global, number: i64) -> Result<(), 
     Ok(())
 }
 
-fn push_range(
+/// `[left:right]`, where there is a range.
+pub fn push_range(
     alloc: Global,
     words: &mut Vec<Word>,
     range: Option<(i64, i64)>,
@@ -214,7 +240,7 @@ impl Binding {
         Ok(())
     }
 
-    // A new net for a port, connected if the port is. Answers whether that can be.
+    // A new net for a port, connected if the port is.
     fn bind_new(
         &mut self,
         alloc: Global,
@@ -222,42 +248,40 @@ impl Binding {
         port: &Port<'_>,
         name: Vec<u8>,
         value: Option<Run>,
-    ) -> Result<bool, NoMemory> {
+    ) -> Result<(), Stop> {
         push_wire(alloc, &mut self.words, &name, port.range)?;
         if let Some(value) = value {
             if port.direction == Direction::Inout {
-                return Ok(false);
+                return Err(Stop::Stays);
             }
             push_assign(alloc, host, &mut self.words, port, &name, value)?;
         }
         self.stand(alloc, port.name, name, WordKind::Name)?;
-        Ok(true)
+        Ok(())
     }
 
-    // What stands for a name: of a net of its own, where nothing does yet.
+    // What stands for a word: for a name a net of its own, where nothing does yet.
     fn stand_for(
         &mut self,
         alloc: Global,
         taken: &mut Taken,
         instance: &[u8],
         word: &Word,
-    ) -> Result<Option<Word>, NoMemory> {
+    ) -> Result<Word, Stop> {
         let Some(name) = word.as_name() else {
-            return Ok(Some(word.copy(alloc)?));
+            return Ok(word.copy(alloc)?);
         };
         if !self.stands.contains_key(name) {
-            let Some(own) = name_for(alloc, taken, instance, name)? else {
-                return Ok(None);
-            };
+            let own = name_for(alloc, taken, instance, name)?;
             self.stand(alloc, name, own, WordKind::Name)?;
         }
         match self.stands.get(name) {
-            Some(stand) => Ok(Some(Word {
+            Some(stand) => Ok(Word {
                 text: Vec::from_slice(alloc, &stand.text)?,
                 kind: stand.kind,
                 apart: word.apart,
-            })),
-            None => Ok(None),
+            }),
+            None => Err(Stop::Stays),
         }
     }
 }
@@ -273,29 +297,25 @@ struct Placing<'p, 's, 't, 'a> {
 }
 
 impl Placing<'_, '_, '_, '_> {
-    // Binds a port. Answers whether that can be.
     fn bind(
         &self,
         taken: &mut Taken,
         binding: &mut Binding,
         place: usize,
         port: &Port<'_>,
-    ) -> Result<bool, NoMemory> {
+    ) -> Result<(), Stop> {
         let value = value_of(self.host, self.instance, place, port).filter(|run| !run.is_empty());
         if let Some(run) = value {
             if let Some(net) = whole_net(self.host, run, port) {
                 let text = Vec::from_slice(self.alloc, net)?;
-                binding.stand(self.alloc, port.name, text, WordKind::Name)?;
-                return Ok(true);
+                return Ok(binding.stand(self.alloc, port.name, text, WordKind::Name)?);
             }
             if is_bit(self.host, run, port) && !is_specified(&self.flat.parts, port.name) {
                 return self.bind_constant(binding, port, run);
             }
         }
-        match name_for(self.alloc, taken, self.name, port.name)? {
-            Some(name) => binding.bind_new(self.alloc, self.host, port, name, value),
-            None => Ok(false),
-        }
+        let name = name_for(self.alloc, taken, self.name, port.name)?;
+        binding.bind_new(self.alloc, self.host, port, name, value)
     }
 
     fn bind_constant(
@@ -303,29 +323,25 @@ impl Placing<'_, '_, '_, '_> {
         binding: &mut Binding,
         port: &Port<'_>,
         value: Run,
-    ) -> Result<bool, NoMemory> {
+    ) -> Result<(), Stop> {
         let mut words = self.host.source.words_of(self.alloc, value)?;
         match words.pop() {
             Some(Word { text, kind, .. }) => {
-                binding.stand(self.alloc, port.name, text, kind)?;
-                Ok(true)
+                Ok(binding.stand(self.alloc, port.name, text, kind)?)
             }
-            None => Ok(false),
+            None => Err(Stop::Stays),
         }
     }
 
-    // Binds all ports.
-    fn bind_all(&self, taken: &mut Taken) -> Result<Option<Binding>, NoMemory> {
+    fn bind_all(&self, taken: &mut Taken) -> Result<Binding, Stop> {
         let mut binding = Binding {
             stands: IndexMap::new(self.alloc),
             words: Vec::new(self.alloc),
         };
         for (place, port) in self.flat.ports.iter().enumerate() {
-            if !self.bind(taken, &mut binding, place, port)? {
-                return Ok(None);
-            }
+            self.bind(taken, &mut binding, place, port)?;
         }
-        Ok(Some(binding))
+        Ok(binding)
     }
 
     // Whether each port stands for a net of its own name.
@@ -343,15 +359,25 @@ impl Placing<'_, '_, '_, '_> {
         taken: &mut Taken,
         binding: &mut Binding,
         words: &[Word],
-    ) -> Result<Option<Vec<Word>>, NoMemory> {
+    ) -> Result<Vec<Word>, Stop> {
         let mut made = Vec::new(self.alloc);
         for word in words {
-            let Some(word) = binding.stand_for(self.alloc, taken, self.name, word)? else {
-                return Ok(None);
-            };
-            made.push(word)?;
+            made.push(binding.stand_for(self.alloc, taken, self.name, word)?)?;
         }
-        Ok(Some(made))
+        Ok(made)
+    }
+
+    fn renamed_arguments(
+        &self,
+        taken: &mut Taken,
+        binding: &mut Binding,
+        arguments: &[Vec<Word>],
+    ) -> Result<Vec<Vec<Word>>, Stop> {
+        let mut list = Vec::new(self.alloc);
+        for argument in arguments {
+            list.push(self.renamed(taken, binding, argument)?)?;
+        }
+        Ok(list)
     }
 
     fn renamed_part(
@@ -359,29 +385,18 @@ impl Placing<'_, '_, '_, '_> {
         taken: &mut Taken,
         binding: &mut Binding,
         part: &BlockStatement,
-    ) -> Result<Option<BlockStatement>, NoMemory> {
+    ) -> Result<BlockStatement, Stop> {
         match part {
             BlockStatement::Path(words) => {
-                let words = self.renamed(taken, binding, words)?;
-                Ok(words.map(|words| BlockStatement::Path(words)))
+                Ok(BlockStatement::Path(self.renamed(taken, binding, words)?))
             }
             BlockStatement::Other(words) => {
-                let words = self.renamed(taken, binding, words)?;
-                Ok(words.map(|words| BlockStatement::Other(words)))
+                Ok(BlockStatement::Other(self.renamed(taken, binding, words)?))
             }
-            BlockStatement::Check { word, arguments } => {
-                let mut list = Vec::new(self.alloc);
-                for argument in arguments {
-                    let Some(words) = self.renamed(taken, binding, argument)? else {
-                        return Ok(None);
-                    };
-                    list.push(words)?;
-                }
-                Ok(Some(BlockStatement::Check {
-                    word: word.copy(self.alloc)?,
-                    arguments: list,
-                }))
-            }
+            BlockStatement::Check { word, arguments } => Ok(BlockStatement::Check {
+                word: word.copy(self.alloc)?,
+                arguments: self.renamed_arguments(taken, binding, arguments)?,
+            }),
         }
     }
 
@@ -389,69 +404,54 @@ impl Placing<'_, '_, '_, '_> {
         &self,
         taken: &mut Taken,
         binding: &mut Binding,
-    ) -> Result<Option<Vec<BlockStatement>>, NoMemory> {
+    ) -> Result<Vec<BlockStatement>, Stop> {
         let mut parts = Vec::new(self.alloc);
         for part in &self.flat.parts {
-            let Some(part) = self.renamed_part(taken, binding, part)? else {
-                return Ok(None);
-            };
-            parts.push(part)?;
+            parts.push(self.renamed_part(taken, binding, part)?)?;
         }
-        Ok(Some(parts))
+        Ok(parts)
     }
 
-    // The ports of the host at the ends of paths, if all are that: inputs where the paths start, outputs where they end.
+    // The ports of the host at the ends of paths: inputs where the paths start, outputs where they end.
     fn terminals(
         &self,
         binding: &Binding,
         names: &[Vec<u8>],
         direction: Direction,
-    ) -> Result<Option<Vec<Vec<u8>>>, NoMemory> {
+    ) -> Result<Vec<Vec<u8>>, Stop> {
         let mut list = Vec::new(self.alloc);
         for name in names {
             let Some(stand) = binding.stands.get(name.as_slice()) else {
-                return Ok(None);
+                return Err(Stop::Stays);
             };
             match self.host.scope.direction_of(&stand.text) {
                 Some(own) if own == direction || own == Direction::Inout => {
                     list.push(Vec::from_slice(self.alloc, &stand.text)?)?
                 }
-                _ => return Ok(None),
+                _ => return Err(Stop::Stays),
             }
         }
-        Ok(Some(list))
+        Ok(list)
     }
 
-    fn place(&self, taken: &mut Taken) -> Result<Option<Inlined>, NoMemory> {
-        let Some(mut binding) = self.bind_all(taken)? else {
-            return Ok(None);
-        };
+    fn place(&self, taken: &mut Taken) -> Result<Inlined, Stop> {
+        let mut binding = self.bind_all(taken)?;
         if has_pulses(&self.flat.parts) && !self.keeps_names(&binding) {
-            return Ok(None);
+            return Err(Stop::Stays);
         }
-        let Some(starts) = self.terminals(&binding, &self.flat.starts, Direction::Input)? else {
-            return Ok(None);
-        };
-        let Some(ends) = self.terminals(&binding, &self.flat.ends, Direction::Output)? else {
-            return Ok(None);
-        };
-        let Some(parts) = self.renamed_parts(taken, &mut binding)? else {
-            return Ok(None);
-        };
-        let Some(held) = self.renamed(taken, &mut binding, &self.flat.words)? else {
-            return Ok(None);
-        };
+        let starts = self.terminals(&binding, &self.flat.starts, Direction::Input)?;
+        let ends = self.terminals(&binding, &self.flat.ends, Direction::Output)?;
+        let parts = self.renamed_parts(taken, &mut binding)?;
+        let mut held = self.renamed(taken, &mut binding, &self.flat.words)?;
         let Binding { words, .. } = binding;
         let mut words = words;
-        for word in held {
-            words.push(word)?;
-        }
-        Ok(Some(Inlined {
+        words.append(&mut held)?;
+        Ok(Inlined {
             words,
             parts,
             starts,
             ends,
-        }))
+        })
     }
 }
 
@@ -481,5 +481,9 @@ pub fn inline(
         instance,
         name,
     };
-    placing.place(taken)
+    match placing.place(taken) {
+        Ok(inlined) => Ok(Some(inlined)),
+        Err(Stop::Stays) => Ok(None),
+        Err(Stop::NoMemory) => Err(NoMemory),
+    }
 }
