@@ -2,7 +2,7 @@
 ghost use Rattle.std.specs.Prelude.{◌≡◌, map};
 
 use crate::twins::{Copying, twin_words};
-use crate::walking::{Quiet, Turn, Twin, Walk, walk_below};
+use crate::walking::{Quiet, Turn, Twin, walk_below};
 use crate::writing::Writer;
 use fit_changes::{Changes, Unfit};
 use fit_items::{Edit, Module, Wishes, add_edits};
@@ -73,6 +73,13 @@ fn add_turn(
     Ok(())
 }
 
+// `NoInstance PATH`. Takes memory.
+fn no_instance(alloc: Global, path: &[u8]) -> Result<Vec<u8>, NoMemory> {
+    let mut kind = Vec::from_slice(alloc, b"NoInstance ")?;
+    kind.extend_from_slice(path)?;
+    Ok(kind)
+}
+
 // Adds what the paths of instances wish.
 fn add_walk(
     alloc: Global,
@@ -87,22 +94,14 @@ fn add_walk(
     if wishes.no_checks.is_empty() && wishes.no_notifier.is_empty() {
         return Ok(());
     }
-    let Walk {
-        turns,
-        twins,
-        unmet,
-    } = walk_below(alloc, library, &plan.fates, top, wishes)?;
-    for (number, turn) in &turns {
+    let mut walk = walk_below(alloc, library, &plan.fates, top, wishes)?;
+    for (number, turn) in &walk.turns {
         add_turn(alloc, library, files, *number, turn, &mut plan.fates)?;
     }
-    for twin in twins {
-        plan.twins.push(twin)?;
+    for path in &walk.unmet {
+        plan.unfit.push(no_instance(alloc, path)?)?;
     }
-    for path in unmet {
-        let mut kind = Vec::from_slice(alloc, b"NoInstance ")?;
-        kind.extend_from_slice(&path)?;
-        plan.unfit.push(kind)?;
-    }
+    plan.twins.append(&mut walk.twins)?;
     Ok(())
 }
 

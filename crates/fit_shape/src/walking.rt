@@ -186,32 +186,46 @@ impl<'t, 'a> Walker<'_, 't, 'a, '_> {
         suffix: &[u8],
         turns: Vec<Turn>,
     ) -> Result<Vec<u8>, NoMemory> {
-        let alloc = self.alloc;
-        let key = key_of(alloc, unit, quiet, &turns)?;
+        let key = key_of(self.alloc, unit, quiet, &turns)?;
         if let Some(name) = self.names.get(key.as_slice()) {
-            return Ok(Vec::from_slice(alloc, name)?);
+            return Ok(Vec::from_slice(self.alloc, name)?);
         }
-        let library = self.library;
-        let own = match library.units.get(unit) {
+        let name = self.new_name(unit, suffix)?;
+        self.names.insert(key, Vec::from_slice(self.alloc, &name)?)?;
+        self.add_twin(unit, quiet, &name, turns)?;
+        Ok(name)
+    }
+
+    fn new_name(&self, unit: usize, suffix: &[u8]) -> Result<Vec<u8>, NoMemory> {
+        let own = match self.library.units.get(unit) {
             Some(unit) => unit.name,
             None => b"",
         };
-        let mut name = Vec::from_slice(alloc, own)?;
+        let mut name = Vec::from_slice(self.alloc, own)?;
         name.extend_from_slice(suffix)?;
-        let name = self.free_name(name)?;
-        self.names.insert(key, Vec::from_slice(alloc, &name)?)?;
+        self.free_name(name)
+    }
+
+    fn add_twin(
+        &mut self,
+        unit: usize,
+        quiet: Quiet,
+        name: &[u8],
+        turns: Vec<Turn>,
+    ) -> Result<(), NoMemory> {
+        let name = Vec::from_slice(self.alloc, name)?;
         let rule = match turns.first() {
             Some(turn) => turn.rule,
             None => quiet.rule(),
         };
         self.twins.push(Twin {
             unit,
-            name: Vec::from_slice(alloc, &name)?,
+            name,
             rule,
             quiet,
             turns,
         })?;
-        Ok(name)
+        Ok(())
     }
 
     fn add_turn(&mut self, node: usize, turn: Turn) -> Result<(), NoMemory> {
@@ -336,6 +350,23 @@ impl<'t, 'a> Walker<'_, 't, 'a, '_> {
         let Some(node) = self.nodes.pop() else {
             return Ok(());
         };
+        if node.turns.is_empty() {
+            return Ok(());
+        }
+        let is_alone = self.counts.get(&node.unit).copied().unwrap_or(0) < 2;
+        if at == 0 || is_alone {
+            add_found(found, node)
+        } else {
+            self.settle_copy(node)
+        }
+    }
+
+    fn settle_copy(&mut self, node: Node) -> Result<(), NoMemory> {
+        let suffix = suffix_of(self.alloc, &node.path)?;
+        let rule = match node.turns.first() {
+            Some(turn) => turn.rule,
+            None => Rule::NoChecks,
+        };
         let Node {
             unit,
             parent,
@@ -344,21 +375,6 @@ impl<'t, 'a> Walker<'_, 't, 'a, '_> {
             path,
             turns,
         } = node;
-        if turns.is_empty() {
-            return Ok(());
-        }
-        let is_alone = self.counts.get(&unit).copied().unwrap_or(0) < 2;
-        if at == 0 || is_alone {
-            for turn in turns {
-                found.push((unit, turn))?;
-            }
-            return Ok(());
-        }
-        let rule = match turns.first() {
-            Some(turn) => turn.rule,
-            None => Rule::NoChecks,
-        };
-        let suffix = suffix_of(self.alloc, &path)?;
         let module = self.twin(unit, Quiet::Nothing, &suffix, turns)?;
         let turn = Turn {
             item,
@@ -369,6 +385,14 @@ impl<'t, 'a> Walker<'_, 't, 'a, '_> {
         };
         self.add_turn(parent, turn)
     }
+}
+
+fn add_found(found: &mut Vec<(usize, Turn)>, node: Node) -> Result<(), NoMemory> {
+    let Node { unit, turns, .. } = node;
+    for turn in turns {
+        found.push((unit, turn))?;
+    }
+    Ok(())
 }
 
 impl Walker<'_, '_, '_, '_> {
@@ -382,6 +406,30 @@ impl Walker<'_, '_, '_, '_> {
             turns: Vec::new(self.alloc),
         })?;
         Ok(())
+    }
+
+    // The turns of all modules from the top on that stand at one place alone.
+    fn turns_below(&mut self, top: usize) -> Result<Vec<(usize, Turn)>, NoMemory> {
+        self.begin(top)?;
+        self.expand_all()?;
+        self.settle_all()
+    }
+
+    fn unmet(&self) -> Result<Vec<Vec<u8>>, NoMemory> {
+        let mut unmet = Vec::new(self.alloc);
+        add_unmet(
+            self.alloc,
+            self.wishes.no_checks,
+            &self.met_checks,
+            &mut unmet,
+        )?;
+        add_unmet(
+            self.alloc,
+            self.wishes.no_notifier,
+            &self.met_notifiers,
+            &mut unmet,
+        )?;
+        Ok(unmet)
     }
 
     // Each module comes before those below it.
@@ -467,6 +515,8 @@ pub fn walk_below<'a>(
     top: usize,
     wishes: Wishes<'_>,
 ) -> Result<Walk, NoMemory> {
+    let met_checks = marks(alloc, wishes.no_checks)?;
+    let met_notifiers = marks(alloc, wishes.no_notifier)?;
     let mut walker = Walker {
         alloc,
         library,
@@ -475,16 +525,12 @@ pub fn walk_below<'a>(
         nodes: Vec::new(alloc),
         counts: IndexMap::new(alloc),
         names: IndexMap::new(alloc),
-        met_checks: marks(alloc, wishes.no_checks)?,
-        met_notifiers: marks(alloc, wishes.no_notifier)?,
+        met_checks,
+        met_notifiers,
         twins: Vec::new(alloc),
     };
-    walker.begin(top)?;
-    walker.expand_all()?;
-    let turns = walker.settle_all()?;
-    let mut unmet = Vec::new(alloc);
-    add_unmet(alloc, wishes.no_checks, &walker.met_checks, &mut unmet)?;
-    add_unmet(alloc, wishes.no_notifier, &walker.met_notifiers, &mut unmet)?;
+    let turns = walker.turns_below(top)?;
+    let unmet = walker.unmet()?;
     let Walker { twins, .. } = walker;
     Ok(Walk {
         turns,
