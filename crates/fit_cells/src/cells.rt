@@ -7,7 +7,7 @@ use std::alloc::Global;
 use vl_token::{Token, TokenKind};
 
 /// A port: where it leads, how many bits it has where that is known, and whether something inside drives it.
-#[derive(Clone, Copy, Debug)]
+#[derive(Clone, Copy)]
 pub struct Port {
     pub direction: Option<Direction>,
     pub width: Option<u64>,
@@ -15,7 +15,7 @@ pub struct Port {
 }
 
 /// What a part is.
-#[derive(Clone, Copy, Debug, PartialEq, Eq)]
+#[derive(Clone, Copy, PartialEq, Eq)]
 enum CellKind {
     Module,
     Primitive,

@@ -8,7 +8,7 @@ use std::alloc::Global;
 use vl_token::Token;
 
 /// A net of a module that is its inout port, and the port of an instance in it that it is connected to, by name or by place.
-#[derive(Clone, Copy, Debug)]
+#[derive(Clone, Copy)]
 pub struct Link<'a> {
     pub owner: &'a [u8],
     pub net: &'a [u8],

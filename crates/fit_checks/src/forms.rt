@@ -16,7 +16,7 @@ use vl_terms::conditions::condition;
 use vl_token::Token;
 
 /// What is written for a check.
-#[derive(Clone, Copy, Debug, PartialEq, Eq)]
+#[derive(Clone, Copy, PartialEq, Eq)]
 pub enum Form {
     /// The same check with the one condition on both terminals.
     OnBoth,

@@ -12,14 +12,23 @@ pub fn declared_of(part: &[Token<'_>], whole: Run) -> Option<Declared> {
     reader.pass_types();
     reader.range()?;
     let name = reader.name()?;
-    if reader.is_done() || reader.passes(Symbol::Assign) {
-        Some(Declared {
-            name,
-            value: reader.rest(),
-        })
-    } else {
-        None
+    let value = reader.value()?;
+    Some(Declared { name, value })
+}
+
+fn all_declared(
+    alloc: Global,
+    part: &[Token<'_>],
+    pieces: &[Run],
+) -> Result<Option<Vec<Declared>>, NoMemory> {
+    let mut list = Vec::new(alloc);
+    for piece in pieces {
+        let Some(declared) = declared_of(part, *piece) else {
+            return Ok(None);
+        };
+        list.push(declared)?;
     }
+    Ok(Some(list))
 }
 
 /// Names with commas between them, if the run is that. Takes memory.
@@ -28,14 +37,19 @@ pub fn declarations_of(
     part: &[Token<'_>],
     run: Run,
 ) -> Result<Option<Vec<Declared>>, NoMemory> {
-    let mut list = Vec::new(alloc);
-    for piece in comma_pieces(alloc, part, run)? {
-        let Some(declared) = declared_of(part, piece) else {
-            return Ok(None);
-        };
-        list.push(declared)?;
+    let pieces = comma_pieces(alloc, part, run)?;
+    all_declared(alloc, part, &pieces)
+}
+
+fn side_of(alloc: Global, part: &[Token<'_>], piece: Run) -> Result<Option<Side>, NoMemory> {
+    let both = pieces_between(alloc, part, piece, Symbol::Assign)?;
+    match both.as_slice() {
+        [left, right] => Ok(Some(Side {
+            left: *left,
+            right: *right,
+        })),
+        _ => Ok(None),
     }
-    Ok(Some(list))
 }
 
 /// Assignments with commas between them, if the run is that. Takes memory.
@@ -44,16 +58,13 @@ pub fn sides_of(
     part: &[Token<'_>],
     run: Run,
 ) -> Result<Option<Vec<Side>>, NoMemory> {
+    let pieces = comma_pieces(alloc, part, run)?;
     let mut sides = Vec::new(alloc);
-    for piece in comma_pieces(alloc, part, run)? {
-        let both = pieces_between(alloc, part, piece, Symbol::Assign)?;
-        let [left, right] = both.as_slice() else {
+    for piece in &pieces {
+        let Some(side) = side_of(alloc, part, *piece)? else {
             return Ok(None);
         };
-        sides.push(Side {
-            left: *left,
-            right: *right,
-        })?;
+        sides.push(side)?;
     }
     Ok(Some(sides))
 }

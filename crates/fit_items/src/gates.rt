@@ -16,12 +16,8 @@ fn connection_of(part: &[Token<'_>], whole: Run) -> Option<Connection> {
         });
     }
     let port = Some(reader.name()?);
-    let value = reader.parens()?;
-    if reader.is_done() {
-        Some(Connection { whole, port, value })
-    } else {
-        None
-    }
+    let value = reader.last_parens()?;
+    Some(Connection { whole, port, value })
 }
 
 fn connections_of(
@@ -29,9 +25,10 @@ fn connections_of(
     part: &[Token<'_>],
     run: Run,
 ) -> Result<Option<Vec<Connection>>, NoMemory> {
+    let pieces = comma_pieces(alloc, part, run)?;
     let mut connections = Vec::new(alloc);
-    for piece in comma_pieces(alloc, part, run)? {
-        let Some(connection) = connection_of(part, piece) else {
+    for piece in &pieces {
+        let Some(connection) = connection_of(part, *piece) else {
             return Ok(None);
         };
         connections.push(connection)?;
@@ -40,16 +37,19 @@ fn connections_of(
 }
 
 // The name, the range and what stands in the parentheses of an instance.
-fn front_of(part: &[Token<'_>], whole: Run) -> Option<(Option<usize>, Run, Run)> {
+#[derive(Clone, Copy)]
+struct Front {
+    name: Option<usize>,
+    range: Run,
+    inner: Run,
+}
+
+fn front_of(part: &[Token<'_>], whole: Run) -> Option<Front> {
     let mut reader = Reader::new(part, whole);
     let name = reader.name();
     let range = reader.range()?;
-    let inner = reader.parens()?;
-    if reader.is_done() {
-        Some((name, range, inner))
-    } else {
-        None
-    }
+    let inner = reader.last_parens()?;
+    Some(Front { name, range, inner })
 }
 
 fn instance_of(
@@ -57,18 +57,18 @@ fn instance_of(
     part: &[Token<'_>],
     whole: Run,
 ) -> Result<Option<Instance>, NoMemory> {
-    let Some((name, range, inner)) = front_of(part, whole) else {
+    let Some(front) = front_of(part, whole) else {
         return Ok(None);
     };
-    let Some(connections) = connections_of(alloc, part, inner)? else {
-        return Ok(None);
-    };
-    Ok(Some(Instance {
-        whole,
-        name,
-        range,
-        connections,
-    }))
+    match connections_of(alloc, part, front.inner)? {
+        Some(connections) => Ok(Some(Instance {
+            whole,
+            name: front.name,
+            range: front.range,
+            connections,
+        })),
+        None => Ok(None),
+    }
 }
 
 /// Gates or instances with commas between them, if the run is that. Takes memory.
@@ -77,9 +77,10 @@ pub fn instances_of(
     part: &[Token<'_>],
     run: Run,
 ) -> Result<Option<Vec<Instance>>, NoMemory> {
+    let pieces = comma_pieces(alloc, part, run)?;
     let mut instances = Vec::new(alloc);
-    for piece in comma_pieces(alloc, part, run)? {
-        let Some(instance) = instance_of(alloc, part, piece)? else {
+    for piece in &pieces {
+        let Some(instance) = instance_of(alloc, part, *piece)? else {
             return Ok(None);
         };
         instances.push(instance)?;

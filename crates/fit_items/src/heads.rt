@@ -1,6 +1,6 @@
 // The head of a module (IEEE 1364-2005, 12.1).
 use crate::declared::declared_of;
-use crate::items::{Direction, HeadPort, Item, ItemKind, Run};
+use crate::items::{Declared, Direction, HeadPort, Item, ItemKind, Module, Run};
 use crate::lists::comma_pieces;
 use crate::readers::Reader;
 use crate::signs::is_one_of;
@@ -9,12 +9,10 @@ use sg_text::NoMemory;
 use std::alloc::Global;
 use vl_token::{Symbol, Token};
 
-/// The head of a module: its parameters and its ports.
+/// The head of a module: its ports, and its parameters as the first statement.
 #[derive(Drop)]
 pub struct Head {
-    pub params: Option<Item>,
-    pub ports: Vec<HeadPort>,
-    pub run: Run,
+    pub module: Module,
     /// The place behind its semicolon.
     pub behind: usize,
 }
@@ -26,30 +24,40 @@ struct Before {
     range: Run,
 }
 
+impl Before {
+    // Those of a port that says so much itself.
+    fn with(self, direction: Option<Direction>, range: Run) -> Before {
+        if direction.is_some() {
+            Before { direction, range }
+        } else if range.is_empty() {
+            self
+        } else {
+            Before {
+                direction: self.direction,
+                range,
+            }
+        }
+    }
+}
+
+fn pass_direction(reader: &mut Reader<'_, '_>) -> Option<Direction> {
+    let direction = direction_of(reader.peek()?)?;
+    reader.step();
+    Some(direction)
+}
+
 fn port_of(part: &[Token<'_>], whole: Run, before: Before) -> Option<HeadPort> {
     let mut reader = Reader::new(part, whole);
-    let direction = match reader.peek() {
-        Some(token) => direction_of(token),
-        None => None,
-    };
-    if direction.is_some() {
-        reader.step();
-    }
+    let direction = pass_direction(&mut reader);
     reader.pass_types();
     let range = reader.range()?;
     let name = reader.name()?;
-    if !reader.is_done() && !reader.passes(Symbol::Assign) {
-        return None;
-    }
-    let is_own = direction.is_some() || !range.is_empty();
+    reader.value()?;
+    let own = before.with(direction, range);
     Some(HeadPort {
         whole,
-        direction: if direction.is_some() {
-            direction
-        } else {
-            before.direction
-        },
-        range: if is_own { range } else { before.range },
+        direction: own.direction,
+        range: own.range,
         name,
     })
 }
@@ -59,13 +67,14 @@ fn ports_of(
     part: &[Token<'_>],
     run: Run,
 ) -> Result<Option<Vec<HeadPort>>, NoMemory> {
+    let pieces = comma_pieces(alloc, part, run)?;
     let mut ports = Vec::new(alloc);
     let mut before = Before {
         direction: None,
         range: Run::none(run.first),
     };
-    for piece in comma_pieces(alloc, part, run)? {
-        let Some(port) = port_of(part, piece, before) else {
+    for piece in &pieces {
+        let Some(port) = port_of(part, *piece, before) else {
             return Ok(None);
         };
         before = Before {
@@ -77,18 +86,23 @@ fn ports_of(
     Ok(Some(ports))
 }
 
-// The parameters in the parentheses behind `#`.
-fn params_of(alloc: Global, part: &[Token<'_>], inner: Run) -> Result<Option<Item>, NoMemory> {
-    let mut list = Vec::new(alloc);
-    for piece in comma_pieces(alloc, part, inner)? {
-        let mut reader = Reader::new(part, piece);
-        if reader
-            .peek()
-            .is_some_and(|token| is_one_of(token, &["parameter", "localparam"]))
-        {
+fn param_of(part: &[Token<'_>], piece: Run) -> Option<Declared> {
+    let mut reader = Reader::new(part, piece);
+    match reader.peek() {
+        Some(token) if is_one_of(token, &["parameter", "localparam"]) => {
             reader.step();
         }
-        let Some(declared) = declared_of(part, reader.rest()) else {
+        _ => {}
+    }
+    declared_of(part, reader.rest())
+}
+
+// The parameters in the parentheses behind `#`.
+fn params_of(alloc: Global, part: &[Token<'_>], inner: Run) -> Result<Option<Item>, NoMemory> {
+    let pieces = comma_pieces(alloc, part, inner)?;
+    let mut list = Vec::new(alloc);
+    for piece in &pieces {
+        let Some(declared) = param_of(part, *piece) else {
             return Ok(None);
         };
         list.push(declared)?;
@@ -100,6 +114,21 @@ fn params_of(alloc: Global, part: &[Token<'_>], inner: Run) -> Result<Option<Ite
         },
         kind: ItemKind::Params(list),
     }))
+}
+
+fn add_params(
+    alloc: Global,
+    part: &[Token<'_>],
+    inner: Run,
+    items: &mut Vec<Item>,
+) -> Result<(), NoMemory> {
+    if inner.is_empty() {
+        return Ok(());
+    }
+    if let Some(params) = params_of(alloc, part, inner)? {
+        items.push(params)?;
+    }
+    Ok(())
 }
 
 // What stands in the parentheses behind a module's name, and the place behind the semicolon.
@@ -126,15 +155,13 @@ pub fn head_of(alloc: Global, part: &[Token<'_>]) -> Result<Option<Head>, NoMemo
     let Some(ports) = ports_of(alloc, part, run)? else {
         return Ok(None);
     };
-    let params = if inner.is_empty() {
-        None
-    } else {
-        params_of(alloc, part, inner)?
+    let mut items = Vec::new(alloc);
+    add_params(alloc, part, inner, &mut items)?;
+    let module = Module {
+        name: 1,
+        head: ports,
+        head_run: run,
+        items,
     };
-    Ok(Some(Head {
-        params,
-        ports,
-        run,
-        behind,
-    }))
+    Ok(Some(Head { module, behind }))
 }

@@ -2,7 +2,7 @@
 
 /// Tokens of a part, from one to the one behind the last; empty where there are none. What stands in parentheses, brackets or
 /// behind `#` is given without these, so the token before `first` is the one that opens it.
-#[derive(Clone, Copy, Debug, PartialEq, Eq)]
+#[derive(Clone, Copy, PartialEq, Eq)]
 pub struct Run {
     pub first: usize,
     pub end: usize,
@@ -25,7 +25,7 @@ impl Run {
 }
 
 /// Where a port leads (IEEE 1364-2005, 12.3.3).
-#[derive(Clone, Copy, Debug, PartialEq, Eq)]
+#[derive(Clone, Copy, PartialEq, Eq)]
 pub enum Direction {
     Input,
     Output,
@@ -33,7 +33,7 @@ pub enum Direction {
 }
 
 /// A name that is declared, and the tokens behind its `=`, if it has one.
-#[derive(Clone, Copy, Debug)]
+#[derive(Clone, Copy)]
 pub struct Declared {
     pub name: usize,
     pub value: Run,
@@ -41,7 +41,7 @@ pub struct Declared {
 
 /// A port in the list behind a module's name. Where a port before it has the direction and range for both, it has them too;
 /// without a direction its declaration stands among the statements.
-#[derive(Clone, Copy, Debug)]
+#[derive(Clone, Copy)]
 pub struct HeadPort {
     pub whole: Run,
     pub direction: Option<Direction>,
@@ -50,7 +50,7 @@ pub struct HeadPort {
 }
 
 /// `.A(value)`, or a value by its place.
-#[derive(Clone, Copy, Debug)]
+#[derive(Clone, Copy)]
 pub struct Connection {
     pub whole: Run,
     pub port: Option<usize>,
@@ -58,7 +58,7 @@ pub struct Connection {
 }
 
 /// A gate, or an instance of a module or primitive. The whole is what stands between commas, without the word before.
-#[derive(Debug, Drop)]
+#[derive(Drop)]
 pub struct Instance {
     pub whole: Run,
     pub name: Option<usize>,
@@ -67,14 +67,14 @@ pub struct Instance {
 }
 
 /// The two sides of an assignment.
-#[derive(Clone, Copy, Debug)]
+#[derive(Clone, Copy)]
 pub struct Side {
     pub left: Run,
     pub right: Run,
 }
 
 /// What a statement of a specify block is (IEEE 1364-2005, clauses 14 and 15).
-#[derive(Debug, Drop)]
+#[derive(Drop)]
 pub enum SpecifyKind {
     /// Specparams. A value in parentheses keeps them.
     Params(Vec<Declared>),
@@ -96,14 +96,14 @@ pub enum SpecifyKind {
 }
 
 /// A statement of a specify block, with its semicolon.
-#[derive(Debug, Drop)]
+#[derive(Drop)]
 pub struct SpecifyPart {
     pub whole: Run,
     pub kind: SpecifyKind,
 }
 
 /// What a statement of a module is. Words are places of tokens.
-#[derive(Debug, Drop)]
+#[derive(Drop)]
 pub enum ItemKind {
     /// Declarations of ports, with or without a net type or `reg`.
     Ports {
@@ -149,14 +149,14 @@ pub enum ItemKind {
 }
 
 /// A statement of a module, with its semicolon or the word that ends it.
-#[derive(Debug, Drop)]
+#[derive(Drop)]
 pub struct Item {
     pub whole: Run,
     pub kind: ItemKind,
 }
 
 /// What a module says.
-#[derive(Debug, Drop)]
+#[derive(Drop)]
 pub struct Module {
     pub name: usize,
     pub head: Vec<HeadPort>,

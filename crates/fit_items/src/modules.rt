@@ -26,20 +26,22 @@ fn is_module(part: &[Token<'_>]) -> bool {
         && !inner.iter().any(|token| begins_module(token))
 }
 
-fn add_items(
+// A module with its statements behind its parameters.
+fn with_items(
     alloc: Global,
     part: &[Token<'_>],
+    head: Head,
     wholes: &[Run],
-    items: &mut Vec<Item>,
-) -> Result<(), NoMemory> {
+) -> Result<Module, NoMemory> {
+    let Head { module, .. } = head;
+    let mut module = module;
     for whole in wholes {
-        let kind = kind_of(alloc, part, *whole)?;
-        items.push(Item {
+        module.items.push(Item {
             whole: *whole,
-            kind,
+            kind: kind_of(alloc, part, *whole)?,
         })?;
     }
-    Ok(())
+    Ok(module)
 }
 
 /// What the tokens of a part say, if it is a module whose statements can be told apart: its brackets match, and each port of
@@ -51,28 +53,12 @@ pub fn read_module(alloc: Global, part: &[Token<'_>]) -> Result<Option<Module>, 
     let Some(head) = head_of(alloc, part)? else {
         return Ok(None);
     };
-    let Head {
-        params,
-        ports,
-        run,
-        behind,
-    } = head;
     let body = Run {
-        first: behind,
+        first: head.behind,
         end: part.len().saturating_sub(1),
     };
-    let Some(wholes) = statements_of(alloc, part, body)? else {
-        return Ok(None);
-    };
-    let mut items = Vec::new(alloc);
-    if let Some(params) = params {
-        items.push(params)?;
+    match statements_of(alloc, part, body)? {
+        Some(wholes) => Ok(Some(with_items(alloc, part, head, &wholes)?)),
+        None => Ok(None),
     }
-    add_items(alloc, part, &wholes, &mut items)?;
-    Ok(Some(Module {
-        name: 1,
-        head: ports,
-        head_run: run,
-        items,
-    }))
 }

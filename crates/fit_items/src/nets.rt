@@ -8,7 +8,7 @@ use std::alloc::Global;
 use vl_token::Token;
 
 // What is known of a net's range.
-#[derive(Clone, Copy, Debug, PartialEq, Eq)]
+#[derive(Clone, Copy)]
 enum Width {
     Bit,
     Range(i64, i64),
@@ -39,8 +39,11 @@ impl<'a> Nets<'a> {
 
     // A range that is given anywhere counts.
     fn add(&mut self, name: &'a [u8], width: Width) -> Result<(), NoMemory> {
-        if width != Width::Bit || !self.declares(name) {
-            self.widths.insert(name, width)?;
+        match width {
+            Width::Bit if self.declares(name) => {}
+            _ => {
+                self.widths.insert(name, width)?;
+            }
         }
         Ok(())
     }
@@ -64,6 +67,18 @@ impl<'a> Nets<'a> {
         Ok(())
     }
 
+    fn add_places(
+        &mut self,
+        part: &[Token<'a>],
+        places: &[usize],
+        width: Width,
+    ) -> Result<(), NoMemory> {
+        for at in places {
+            self.add_at(part, *at, width)?;
+        }
+        Ok(())
+    }
+
     fn add_item(
         &mut self,
         alloc: Global,
@@ -73,10 +88,7 @@ impl<'a> Nets<'a> {
         match kind {
             ItemKind::Ports { range, names, .. } => {
                 let width = width_of(alloc, part, *range)?;
-                for at in names {
-                    self.add_at(part, *at, width)?;
-                }
-                Ok(())
+                self.add_places(part, names, width)
             }
             ItemKind::Nets { range, names, .. } | ItemKind::Registers { range, names } => {
                 let width = width_of(alloc, part, *range)?;

@@ -31,12 +31,12 @@ pub fn range_of(
     run: Run,
 ) -> Result<Option<(i64, i64)>, NoMemory> {
     let pieces = pieces_between(alloc, part, run, Symbol::Colon)?;
-    let [left, right] = pieces.as_slice() else {
-        return Ok(None);
-    };
-    Ok(pair_of(whole_number(part, *left), whole_number(part, *right)))
+    Ok(pair_of(part, &pieces))
 }
 
-fn pair_of(left: Option<i64>, right: Option<i64>) -> Option<(i64, i64)> {
-    Some((left?, right?))
+fn pair_of(part: &[Token<'_>], pieces: &[Run]) -> Option<(i64, i64)> {
+    match pieces {
+        [left, right] => Some((whole_number(part, *left)?, whole_number(part, *right)?)),
+        _ => None,
+    }
 }

@@ -76,9 +76,16 @@ impl<'t, 'a> Reader<'t, 'a> {
         at
     }
 
+    fn is_at(&self, symbol: Symbol) -> bool {
+        match self.peek() {
+            Some(token) => is_symbol(token, symbol),
+            None => false,
+        }
+    }
+
     /// Passes a symbol, if it is the next token.
     pub fn passes(&mut self, symbol: Symbol) -> bool {
-        let is_next = self.peek().is_some_and(|token| is_symbol(token, symbol));
+        let is_next = self.is_at(symbol);
         if is_next {
             self.step();
         }
@@ -87,7 +94,10 @@ impl<'t, 'a> Reader<'t, 'a> {
 
     /// Passes a word, if it is the next token.
     pub fn passes_word(&mut self, word: Keyword) -> bool {
-        let is_next = self.peek().is_some_and(|token| is_keyword(token, word));
+        let is_next = match self.peek() {
+            Some(token) => is_keyword(token, word),
+            None => false,
+        };
         if is_next {
             self.step();
         }
@@ -97,17 +107,26 @@ impl<'t, 'a> Reader<'t, 'a> {
     /// Passes the words of net and number types.
     pub fn pass_types(&mut self) {
         for _ in self.at..self.end {
-            if !self.peek().is_some_and(|token| is_type(token)) {
-                break;
-            }
-            self.step();
+            match self.peek() {
+                Some(token) if is_type(token) => self.step(),
+                _ => break,
+            };
+        }
+    }
+
+    /// What stands behind `=`, and nothing at the end.
+    pub fn value(&mut self) -> Option<Run> {
+        if self.is_done() || self.passes(Symbol::Assign) {
+            Some(self.rest())
+        } else {
+            None
         }
     }
 
     /// Passes a name, and gives its place.
     pub fn name(&mut self) -> Option<usize> {
-        let is_next = self.peek().is_some_and(|token| name_of(token).is_some());
-        if is_next { Some(self.step()) } else { None }
+        name_of(self.peek()?)?;
+        Some(self.step())
     }
 
     // Passes what stands in brackets that open at the next token.
@@ -120,22 +139,22 @@ impl<'t, 'a> Reader<'t, 'a> {
 
     /// Passes parentheses, and gives what stands in them.
     pub fn parens(&mut self) -> Option<Run> {
-        if self
-            .peek()
-            .is_some_and(|token| is_symbol(token, Symbol::LeftParen))
-        {
+        if self.is_at(Symbol::LeftParen) {
             self.group()
         } else {
             None
         }
     }
 
+    /// What stands in parentheses behind which nothing stands.
+    pub fn last_parens(&mut self) -> Option<Run> {
+        let inner = self.parens()?;
+        if self.is_done() { Some(inner) } else { None }
+    }
+
     /// Passes a range, if one is next.
     pub fn range(&mut self) -> Option<Run> {
-        if self
-            .peek()
-            .is_some_and(|token| is_symbol(token, Symbol::LeftBracket))
-        {
+        if self.is_at(Symbol::LeftBracket) {
             self.group()
         } else {
             Some(Run::none(self.at))
@@ -147,10 +166,7 @@ impl<'t, 'a> Reader<'t, 'a> {
         if !self.passes(Symbol::Hash) {
             return Some(Run::none(self.at));
         }
-        if self
-            .peek()
-            .is_some_and(|token| is_symbol(token, Symbol::LeftParen))
-        {
+        if self.is_at(Symbol::LeftParen) {
             return self.group();
         }
         let first = self.step();
@@ -162,18 +178,9 @@ impl<'t, 'a> Reader<'t, 'a> {
 
     /// Passes strengths, if they are next.
     pub fn strength(&mut self) -> Option<Run> {
-        let is_word = self
-            .part
-            .get(self.at.saturating_add(1))
-            .is_some_and(|token| is_strength(token));
-        if is_word
-            && self
-                .peek()
-                .is_some_and(|token| is_symbol(token, Symbol::LeftParen))
-        {
-            self.group()
-        } else {
-            Some(Run::none(self.at))
+        match self.part.get(self.at.saturating_add(1)) {
+            Some(token) if is_strength(token) && self.is_at(Symbol::LeftParen) => self.group(),
+            _ => Some(Run::none(self.at)),
         }
     }
 }

@@ -52,7 +52,7 @@ pub fn is_one_of(token: &Token<'_>, words: &[&str]) -> bool {
 }
 
 /// How much deeper in brackets the tokens behind it stand than those before it.
-#[derive(Clone, Copy, Debug, PartialEq, Eq)]
+#[derive(Clone, Copy)]
 pub enum Bracket {
     Opens,
     Closes,

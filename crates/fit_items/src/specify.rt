@@ -19,22 +19,27 @@ fn params_of(alloc: Global, part: &[Token<'_>], run: Run) -> Result<SpecifyKind,
 fn check_of(alloc: Global, part: &[Token<'_>], run: Run) -> Result<SpecifyKind, NoMemory> {
     let mut reader = Reader::new(part, run);
     let word = reader.step();
-    match reader.parens() {
-        Some(inner) if reader.is_done() => Ok(SpecifyKind::Check {
+    match reader.last_parens() {
+        Some(inner) => Ok(SpecifyKind::Check {
             word,
             arguments: comma_pieces(alloc, part, inner)?,
         }),
-        _ => Ok(SpecifyKind::Other),
+        None => Ok(SpecifyKind::Other),
+    }
+}
+
+// What stands in `if (..)`, if that is next.
+fn condition_of(reader: &mut Reader<'_, '_>) -> Option<Run> {
+    if reader.passes_word(Keyword::If) {
+        reader.parens()
+    } else {
+        Some(Run::none(reader.rest().first))
     }
 }
 
 fn path_of(part: &[Token<'_>], run: Run) -> Option<SpecifyKind> {
     let mut reader = Reader::new(part, run);
-    let condition = if reader.passes_word(Keyword::If) {
-        reader.parens()?
-    } else {
-        Run::none(run.first)
-    };
+    let condition = condition_of(&mut reader)?;
     let ifnone = reader.passes_word(Keyword::IfNone);
     let head = reader.parens()?;
     if !reader.passes(Symbol::Assign) {
@@ -65,23 +70,33 @@ fn kind_of(alloc: Global, part: &[Token<'_>], run: Run) -> Result<SpecifyKind, N
     }
 }
 
+// A statement without its semicolon, which stands before an end.
+fn specify_part(
+    alloc: Global,
+    part: &[Token<'_>],
+    piece: Run,
+    end: usize,
+) -> Result<SpecifyPart, NoMemory> {
+    let whole = Run {
+        first: piece.first,
+        end: piece.end.saturating_add(1).min(end),
+    };
+    let kind = kind_of(alloc, part, piece)?;
+    Ok(SpecifyPart { whole, kind })
+}
+
 /// The statements that stand in a specify block. Takes memory.
 pub fn specify_parts(
     alloc: Global,
     part: &[Token<'_>],
     run: Run,
 ) -> Result<Vec<SpecifyPart>, NoMemory> {
+    let pieces = pieces_between(alloc, part, run, Symbol::Semicolon)?;
     let mut parts = Vec::new(alloc);
-    for piece in pieces_between(alloc, part, run, Symbol::Semicolon)? {
-        if piece.is_empty() {
-            continue;
+    for piece in &pieces {
+        if !piece.is_empty() {
+            parts.push(specify_part(alloc, part, *piece, run.end)?)?;
         }
-        let whole = Run {
-            first: piece.first,
-            end: piece.end.saturating_add(1).min(run.end),
-        };
-        let kind = kind_of(alloc, part, piece)?;
-        parts.push(SpecifyPart { whole, kind })?;
     }
     Ok(parts)
 }

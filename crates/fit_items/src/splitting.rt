@@ -6,7 +6,7 @@ use std::alloc::Global;
 use vl_token::{Symbol, Token, TokenKind};
 
 // How a statement ends.
-#[derive(Clone, Copy, Debug, PartialEq, Eq)]
+#[derive(Clone, Copy)]
 enum Form {
     /// With a semicolon.
     Plain,
@@ -19,7 +19,7 @@ enum Form {
 }
 
 // A statement that was begun.
-#[derive(Clone, Copy, Debug, PartialEq, Eq)]
+#[derive(Clone, Copy)]
 struct Open {
     form: Form,
     first: usize,
@@ -59,6 +59,13 @@ fn form_of(token: &Token<'_>) -> Form {
     }
 }
 
+fn is_else(part: &[Token<'_>], at: usize) -> bool {
+    match part.get(at) {
+        Some(token) => is_one_of(token, &["else"]),
+        None => false,
+    }
+}
+
 impl Open {
     fn new(token: &Token<'_>, first: usize) -> Open {
         Open {
@@ -92,7 +99,10 @@ impl Open {
     }
 
     // Whether it ends with a token that was passed, before the next one.
-    fn ends(self, token: &Token<'_>, next: Option<&Token<'_>>) -> bool {
+    fn ends(self, part: &[Token<'_>], at: usize) -> bool {
+        let Some(token) = part.get(at) else {
+            return false;
+        };
         let is_semicolon = is_symbol(token, Symbol::Semicolon);
         match self.form {
             Form::Plain => is_semicolon && self.depth == 0,
@@ -102,15 +112,25 @@ impl Open {
                 (is_semicolon || is_one_of(token, &ENDS))
                     && self.depth == 0
                     && self.blocks == 0
-                    && !next.is_some_and(|next| is_one_of(next, &["else"]))
+                    && !is_else(part, at.saturating_add(1))
             }
         }
     }
 }
 
-// Whether a token is a statement without a word.
-fn is_empty(run: Run) -> bool {
-    run.len() == 1
+// The statement that is open behind a token, where one was before it or begins with it.
+fn behind_at(part: &[Token<'_>], at: usize, open: Option<Open>) -> Option<Open> {
+    let token = part.get(at)?;
+    open.unwrap_or(Open::new(token, at)).behind(token)
+}
+
+// Adds a statement, but for one without a word.
+fn add_whole(list: &mut Vec<Run>, first: usize, end: usize) -> Result<(), NoMemory> {
+    let whole = Run { first, end };
+    if whole.len() != 1 {
+        list.push(whole)?;
+    }
+    Ok(())
 }
 
 /// The statements of a run, each with its last token, without empty ones; None where one doesn't end. Takes memory.
@@ -122,23 +142,14 @@ pub fn statements_of(
     let mut list = Vec::new(alloc);
     let mut open: Option<Open> = None;
     for at in run.first..run.end {
-        let Some(token) = part.get(at) else {
+        let Some(behind) = behind_at(part, at, open) else {
             return Ok(None);
         };
-        let begun = open.unwrap_or(Open::new(token, at));
-        let Some(behind) = begun.behind(token) else {
-            return Ok(None);
-        };
-        open = Some(behind);
-        if behind.ends(token, part.get(at + 1)) {
-            let whole = Run {
-                first: behind.first,
-                end: at + 1,
-            };
-            if !is_empty(whole) {
-                list.push(whole)?;
-            }
+        if behind.ends(part, at) {
+            add_whole(&mut list, behind.first, at + 1)?;
             open = None;
+        } else {
+            open = Some(behind);
         }
     }
     if open.is_some() {

@@ -4,7 +4,7 @@ use crate::gates::instances_of;
 use crate::items::{Direction, ItemKind, Run};
 use crate::lists::tokens_of;
 use crate::readers::Reader;
-use crate::signs::is_one_of;
+use crate::signs::{is_one_of, name_of};
 use crate::specify::specify_parts;
 use sg_text::{Keyword, NoMemory};
 use std::alloc::Global;
@@ -15,7 +15,7 @@ const NETS: [&str; 8] = [
 ];
 
 /// What the first token of a statement says of it.
-#[derive(Clone, Copy, Debug, PartialEq, Eq)]
+#[derive(Clone, Copy)]
 enum Front {
     Ports(Direction),
     Nets,
@@ -75,15 +75,10 @@ fn front_of(token: &Token<'_>) -> Front {
         Front::Params
     } else if is_one_of(token, &NETS) {
         Front::Nets
+    } else if name_of(token).is_some() {
+        Front::Instances
     } else {
-        front_of_name(token)
-    }
-}
-
-fn front_of_name(token: &Token<'_>) -> Front {
-    match token.kind {
-        TokenKind::Name(_) => Front::Instances,
-        _ => Front::Other,
+        Front::Other
     }
 }
 
@@ -122,14 +117,16 @@ fn nets_of(
     let Some(delay) = reader.delay() else {
         return Ok(None);
     };
-    let names = declarations_of(alloc, part, reader.rest())?;
-    Ok(names.map(|names| ItemKind::Nets {
-        word,
-        strength,
-        range,
-        delay,
-        names,
-    }))
+    match declarations_of(alloc, part, reader.rest())? {
+        Some(names) => Ok(Some(ItemKind::Nets {
+            word,
+            strength,
+            range,
+            delay,
+            names,
+        })),
+        None => Ok(None),
+    }
 }
 
 fn registers_of(
@@ -141,8 +138,16 @@ fn registers_of(
     let Some(range) = reader.range() else {
         return Ok(None);
     };
-    let names = declarations_of(alloc, part, reader.rest())?;
-    Ok(names.map(|names| ItemKind::Registers { range, names }))
+    match declarations_of(alloc, part, reader.rest())? {
+        Some(names) => Ok(Some(ItemKind::Registers { range, names })),
+        None => Ok(None),
+    }
+}
+
+fn strength_and_delay(reader: &mut Reader<'_, '_>) -> Option<(Run, Run)> {
+    let strength = reader.strength()?;
+    let delay = reader.delay()?;
+    Some((strength, delay))
 }
 
 fn assign_of(
@@ -150,18 +155,17 @@ fn assign_of(
     part: &[Token<'_>],
     reader: &mut Reader<'_, '_>,
 ) -> Result<Option<ItemKind>, NoMemory> {
-    let Some(strength) = reader.strength() else {
+    let Some((strength, delay)) = strength_and_delay(reader) else {
         return Ok(None);
     };
-    let Some(delay) = reader.delay() else {
-        return Ok(None);
-    };
-    let sides = sides_of(alloc, part, reader.rest())?;
-    Ok(sides.map(|sides| ItemKind::Assign {
-        strength,
-        delay,
-        sides,
-    }))
+    match sides_of(alloc, part, reader.rest())? {
+        Some(sides) => Ok(Some(ItemKind::Assign {
+            strength,
+            delay,
+            sides,
+        })),
+        None => Ok(None),
+    }
 }
 
 fn gates_of(
@@ -170,19 +174,18 @@ fn gates_of(
     word: usize,
     reader: &mut Reader<'_, '_>,
 ) -> Result<Option<ItemKind>, NoMemory> {
-    let Some(strength) = reader.strength() else {
+    let Some((strength, delay)) = strength_and_delay(reader) else {
         return Ok(None);
     };
-    let Some(delay) = reader.delay() else {
-        return Ok(None);
-    };
-    let instances = instances_of(alloc, part, reader.rest())?;
-    Ok(instances.map(|instances| ItemKind::Gates {
-        word,
-        strength,
-        delay,
-        instances,
-    }))
+    match instances_of(alloc, part, reader.rest())? {
+        Some(instances) => Ok(Some(ItemKind::Gates {
+            word,
+            strength,
+            delay,
+            instances,
+        })),
+        None => Ok(None),
+    }
 }
 
 fn modules_of(
@@ -194,12 +197,21 @@ fn modules_of(
     let Some(values) = reader.delay() else {
         return Ok(None);
     };
-    let instances = instances_of(alloc, part, reader.rest())?;
-    Ok(instances.map(|instances| ItemKind::Instances {
-        module,
-        values,
-        instances,
-    }))
+    match instances_of(alloc, part, reader.rest())? {
+        Some(instances) => Ok(Some(ItemKind::Instances {
+            module,
+            values,
+            instances,
+        })),
+        None => Ok(None),
+    }
+}
+
+fn params_of(alloc: Global, part: &[Token<'_>], run: Run) -> Result<Option<ItemKind>, NoMemory> {
+    match declarations_of(alloc, part, run)? {
+        Some(list) => Ok(Some(ItemKind::Params(list))),
+        None => Ok(None),
+    }
 }
 
 // What a statement is, if it is well formed.
@@ -215,17 +227,11 @@ fn known_kind(
         Front::Ports(direction) => ports_of(alloc, part, direction, &mut reader),
         Front::Nets => nets_of(alloc, part, word, &mut reader),
         Front::Registers => registers_of(alloc, part, &mut reader),
-        Front::Params => {
-            let list = declarations_of(alloc, part, reader.rest())?;
-            Ok(list.map(|list| ItemKind::Params(list)))
-        }
+        Front::Params => params_of(alloc, part, reader.rest()),
         Front::Assign => assign_of(alloc, part, &mut reader),
         Front::Gates => gates_of(alloc, part, word, &mut reader),
         Front::Instances => modules_of(alloc, part, word, &mut reader),
-        Front::Specify => {
-            let parts = specify_parts(alloc, part, reader.rest())?;
-            Ok(Some(ItemKind::Specify(parts)))
-        }
+        Front::Specify => Ok(Some(ItemKind::Specify(specify_parts(alloc, part, reader.rest())?))),
         Front::Other => Ok(None),
     }
 }

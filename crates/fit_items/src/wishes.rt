@@ -1,7 +1,7 @@
 // What is wished beside the netlist.
 
 /// What the words of the command line wish, beside the netlist.
-#[derive(Clone, Copy, Debug)]
+#[derive(Clone, Copy)]
 pub struct Wishes<'w> {
     /// The top, where it is named.
     pub top: Option<&'w str>,

@@ -1,5 +1,5 @@
 // What becomes of instances.
-use crate::words::{Source, Word, copy_words, push_fixed, push_fixed_name};
+use crate::words::{Source, Word, push_copies, push_fixed, push_fixed_name};
 use fit_changes::Rule;
 use fit_items::{Instance, Item, ItemKind, Run, name_at};
 use indexmap::IndexMap;
@@ -7,7 +7,7 @@ use sg_text::NoMemory;
 use std::alloc::Global;
 
 /// An instance: the numbers of its part, of its statement there, and its own in the statement.
-#[derive(Clone, Copy, Debug, PartialEq, Eq, Hash)]
+#[derive(Clone, Copy, PartialEq, Eq, Hash)]
 pub struct Spot {
     pub unit: usize,
     pub item: usize,
@@ -61,13 +61,24 @@ pub fn push_instance(
 ) -> Result<(), NoMemory> {
     let own = name_at(source.part, statement.module).unwrap_or(b"");
     push_fixed_name(alloc, words, module.unwrap_or(own), true)?;
-    if !statement.values.is_empty() {
-        push_fixed(alloc, words, "#(", true)?;
-        source.push_run(alloc, words, statement.values)?;
-        push_fixed(alloc, words, ")", false)?;
-    }
+    push_values(alloc, source, statement, words)?;
     source.push_run(alloc, words, instance.whole)?;
     push_fixed(alloc, words, ";", false)
+}
+
+// `#(values)`, where there are any.
+fn push_values(
+    alloc: Global,
+    source: Source<'_, '_, '_>,
+    statement: Statement<'_>,
+    words: &mut Vec<Word>,
+) -> Result<(), NoMemory> {
+    if statement.values.is_empty() {
+        return Ok(());
+    }
+    push_fixed(alloc, words, "#(", true)?;
+    source.push_run(alloc, words, statement.values)?;
+    push_fixed(alloc, words, ")", false)
 }
 
 /// Adds what stands in the place of an instance, which is itself where it has no fate.
@@ -79,13 +90,10 @@ pub fn push_fate(
     fate: Option<&Fate>,
     words: &mut Vec<Word>,
 ) -> Result<(), NoMemory> {
-    let Some(fate) = fate else {
-        return push_instance(alloc, source, statement, instance, None, words);
-    };
-    for word in copy_words(alloc, &fate.words)? {
-        words.push(word)?;
+    match fate {
+        Some(fate) => push_copies(alloc, words, &fate.words),
+        None => push_instance(alloc, source, statement, instance, None, words),
     }
-    Ok(())
 }
 
 /// `NAME of MODULE`, and a text behind it. Takes memory.
@@ -97,11 +105,20 @@ pub fn told_of(
     behind: &[u8],
 ) -> Result<Vec<u8>, NoMemory> {
     let mut what = Vec::new(alloc);
-    if let Some(name) = instance.name.and_then(|at| name_at(part.part, at)) {
-        what.extend_from_slice(name)?;
-        what.extend_from_slice(b" of ")?;
-    }
+    push_owner(
+        &mut what,
+        instance.name.and_then(|at| name_at(part.part, at)),
+    )?;
     what.extend_from_slice(name_at(part.part, statement.module).unwrap_or(b""))?;
     what.extend_from_slice(behind)?;
     Ok(what)
+}
+
+// `NAME of `, where there is a name.
+fn push_owner(what: &mut Vec<u8>, name: Option<&[u8]>) -> Result<(), NoMemory> {
+    if let Some(name) = name {
+        what.extend_from_slice(name)?;
+        what.extend_from_slice(b" of ")?;
+    }
+    Ok(())
 }

@@ -1,9 +1,10 @@
 // What a module holds, as words that another module may hold in its place.
 use crate::scopes::Scope;
-use crate::words::{Source, Word, copy_words, push_fixed};
+use crate::terminals::Terminals;
+use crate::words::{Source, Word, copy_words, push_copies, push_fixed};
 use fit_items::{
     Declared, Direction, Item, ItemKind, Run, SpecifyKind, SpecifyPart, is_keyword, is_symbol,
-    name_at, name_of, tokens_of,
+    name_at, tokens_of,
 };
 use sg_text::{Keyword, NoMemory};
 use std::alloc::Global;
@@ -28,15 +29,14 @@ pub struct Port<'a> {
     pub range: Option<(i64, i64)>,
 }
 
-/// What a module holds, but for the declarations of its ports. Starts and ends are the ports between which its paths lead.
+/// What a module holds, but for the declarations of its ports, and the ports between which its paths lead.
 #[derive(Drop)]
 pub struct Flat<'a> {
     pub mark: Mark,
     pub ports: Vec<Port<'a>>,
     pub words: Vec<Word>,
     pub parts: Vec<BlockStatement>,
-    pub starts: Vec<Vec<u8>>,
-    pub ends: Vec<Vec<u8>>,
+    pub terminals: Terminals,
 }
 
 /// The ports of a module, if the direction and range of each is known. Takes memory.
@@ -144,16 +144,25 @@ fn push_others<'a>(
     source.push_run(alloc, words, front)?;
     let mut is_first = true;
     for declared in names {
-        if is_port(source.part, scope, declared) {
-            continue;
+        if !is_port(source.part, scope, declared) {
+            push_other(alloc, source, declared, is_first, words)?;
+            is_first = false;
         }
-        if !is_first {
-            push_fixed(alloc, words, ",", false)?;
-        }
-        is_first = false;
-        source.push_run(alloc, words, run_of_token(declared.name))?;
     }
     push_fixed(alloc, words, ";", false)
+}
+
+fn push_other(
+    alloc: Global,
+    source: Source<'_, '_, '_>,
+    declared: &Declared,
+    is_first: bool,
+    words: &mut Vec<Word>,
+) -> Result<(), NoMemory> {
+    if !is_first {
+        push_fixed(alloc, words, ",", false)?;
+    }
+    source.push_run(alloc, words, run_of_token(declared.name))
 }
 
 /// The run of one token.
@@ -164,6 +173,32 @@ pub fn run_of_token(at: usize) -> Run {
     }
 }
 
+fn arguments_of(
+    alloc: Global,
+    source: Source<'_, '_, '_>,
+    arguments: &[Run],
+) -> Result<Vec<Vec<Word>>, NoMemory> {
+    let mut list = Vec::new(alloc);
+    for argument in arguments {
+        list.push(source.words_of(alloc, *argument)?)?;
+    }
+    Ok(list)
+}
+
+fn check_of(
+    alloc: Global,
+    source: Source<'_, '_, '_>,
+    word: usize,
+    arguments: &[Run],
+) -> Result<BlockStatement, NoMemory> {
+    let arguments = arguments_of(alloc, source, arguments)?;
+    let mut name = source.words_of(alloc, run_of_token(word))?;
+    match name.pop() {
+        Some(word) => Ok(BlockStatement::Check { word, arguments }),
+        None => Ok(BlockStatement::Other(Vec::new(alloc))),
+    }
+}
+
 /// A statement of a specify block as words. Takes memory.
 pub fn block_statement_of(
     alloc: Global,
@@ -171,20 +206,7 @@ pub fn block_statement_of(
     statement: &SpecifyPart,
 ) -> Result<BlockStatement, NoMemory> {
     match &statement.kind {
-        SpecifyKind::Check { word, arguments } => {
-            let mut list = Vec::new(alloc);
-            for argument in arguments {
-                list.push(source.words_of(alloc, *argument)?)?;
-            }
-            let mut name = source.words_of(alloc, run_of_token(*word))?;
-            match name.pop() {
-                Some(word) => Ok(BlockStatement::Check {
-                    word,
-                    arguments: list,
-                }),
-                None => Ok(BlockStatement::Other(Vec::new(alloc))),
-            }
-        }
+        SpecifyKind::Check { word, arguments } => check_of(alloc, source, *word, arguments),
         SpecifyKind::Path { .. } => Ok(BlockStatement::Path(source.words_of(
             alloc,
             statement.whole,
@@ -200,12 +222,7 @@ pub fn push_block_statement(
     part: &BlockStatement,
 ) -> Result<(), NoMemory> {
     match part {
-        BlockStatement::Path(own) | BlockStatement::Other(own) => {
-            for word in own {
-                words.push(word.copy(alloc)?)?;
-            }
-            Ok(())
-        }
+        BlockStatement::Path(own) | BlockStatement::Other(own) => { push_copies(alloc, words, own) }
         BlockStatement::Check { word, arguments } => push_check(alloc, words, word, arguments),
     }
 }
@@ -218,18 +235,23 @@ fn push_check(
 ) -> Result<(), NoMemory> {
     words.push(word.copy(alloc)?)?;
     push_fixed(alloc, words, "(", true)?;
-    let mut is_first = true;
-    for argument in arguments {
-        if !is_first {
-            push_fixed(alloc, words, ",", false)?;
-        }
-        is_first = false;
-        for own in copy_words(alloc, argument)? {
-            words.push(own)?;
-        }
-    }
+    push_arguments(alloc, words, arguments)?;
     push_fixed(alloc, words, ")", false)?;
     push_fixed(alloc, words, ";", false)
+}
+
+fn push_arguments(
+    alloc: Global,
+    words: &mut Vec<Word>,
+    arguments: &[Vec<Word>],
+) -> Result<(), NoMemory> {
+    for (place, argument) in arguments.iter().enumerate() {
+        if place > 0 {
+            push_fixed(alloc, words, ",", false)?;
+        }
+        push_copies(alloc, words, argument)?;
+    }
+    Ok(())
 }
 
 /// A copy of a statement. Takes memory.
@@ -240,15 +262,17 @@ pub fn copy_block_statement(
     match part {
         BlockStatement::Path(words) => Ok(BlockStatement::Path(copy_words(alloc, words)?)),
         BlockStatement::Other(words) => Ok(BlockStatement::Other(copy_words(alloc, words)?)),
-        BlockStatement::Check { word, arguments } => {
-            let mut list = Vec::new(alloc);
-            for argument in arguments {
-                list.push(copy_words(alloc, argument)?)?;
-            }
-            Ok(BlockStatement::Check {
-                word: word.copy(alloc)?,
-                arguments: list,
-            })
-        }
+        BlockStatement::Check { word, arguments } => Ok(BlockStatement::Check {
+            word: word.copy(alloc)?,
+            arguments: copy_arguments(alloc, arguments)?,
+        }),
     }
+}
+
+fn copy_arguments(alloc: Global, arguments: &[Vec<Word>]) -> Result<Vec<Vec<Word>>, NoMemory> {
+    let mut list = Vec::new(alloc);
+    for argument in arguments {
+        list.push(copy_words(alloc, argument)?)?;
+    }
+    Ok(list)
 }

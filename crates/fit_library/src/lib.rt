@@ -18,4 +18,7 @@ pub use library::{Library, Unit, UnitKind, child_of, read_library, top_of};
 pub use scopes::{Scope, Taken, names_of, scope_of};
 pub use terminals::Terminals;
 pub use uses::span_of_run;
-pub use words::{Source, Word, WordKind, copy_words, push_fixed, push_fixed_name, push_words};
+pub use words::{
+    Source, Word, WordKind, copy_words, push_assign, push_copies, push_fixed, push_fixed_name,
+    push_range, push_words,
+};

@@ -1,14 +1,13 @@
 // Words of statements, as they are to be written.
 use fit_changes::Changes;
-use fit_items::{
-    Run, is_one_of, is_plain_name, is_symbol, name_of, push_name, push_token, span_of,
-};
+use fit_items::{Run, is_one_of, is_symbol, name_of, push_name, push_token, span_of};
+use itoa::Buffer;
 use sg_text::NoMemory;
 use std::alloc::Global;
 use vl_token::{Symbol, Token};
 
 /// What a word is: a name of the module in which it stands, which may become another, or fixed.
-#[derive(Clone, Copy, Debug, PartialEq, Eq)]
+#[derive(Clone, Copy)]
 pub enum WordKind {
     Name,
     Fixed,
@@ -59,10 +58,16 @@ impl Word {
 /// Copies of words. Takes memory.
 pub fn copy_words(alloc: Global, words: &[Word]) -> Result<Vec<Word>, NoMemory> {
     let mut made = Vec::new(alloc);
-    for word in words {
-        made.push(word.copy(alloc)?)?;
-    }
+    push_copies(alloc, &mut made, words)?;
     Ok(made)
+}
+
+/// Adds copies of words.
+pub fn push_copies(alloc: Global, words: &mut Vec<Word>, more: &[Word]) -> Result<(), NoMemory> {
+    for word in more {
+        words.push(word.copy(alloc)?)?;
+    }
+    Ok(())
 }
 
 /// Adds words of punctuation and keywords, each as it is given.
@@ -179,4 +184,41 @@ pub fn push_fixed_name(
         apart,
     })?;
     Ok(())
+}
+
+fn push_number(words: &mut Vec<Word>, alloc: Global, number: i64) -> Result<(), NoMemory> {
+    let mut buffer = Buffer::new();
+    words.push(Word::fixed(alloc, buffer.format(number).as_bytes(), false)?)?;
+    Ok(())
+}
+
+/// `[left:right]`, where there is a range.
+pub fn push_range(
+    alloc: Global,
+    words: &mut Vec<Word>,
+    range: Option<(i64, i64)>,
+) -> Result<(), NoMemory> {
+    let Some((left, right)) = range else {
+        return Ok(());
+    };
+    push_fixed(alloc, words, "[", true)?;
+    push_number(words, alloc, left)?;
+    push_fixed(alloc, words, ":", false)?;
+    push_number(words, alloc, right)?;
+    push_fixed(alloc, words, "]", false)
+}
+
+/// `assign VALUE = NAME;`
+pub fn push_assign(
+    alloc: Global,
+    source: Source<'_, '_, '_>,
+    words: &mut Vec<Word>,
+    value: Run,
+    name: &[u8],
+) -> Result<(), NoMemory> {
+    push_fixed(alloc, words, "assign", true)?;
+    source.push_run(alloc, words, value)?;
+    push_fixed(alloc, words, "=", true)?;
+    words.push(Word::name(alloc, name, true)?)?;
+    push_fixed(alloc, words, ";", false)
 }

@@ -7,7 +7,7 @@ use fit_values::{Ask, View};
 use sg_text::NoMemory;
 
 // How the names of a declaration stand to the rule.
-#[derive(Clone, Copy, Debug, PartialEq, Eq)]
+#[derive(Clone, Copy, PartialEq, Eq)]
 enum Pins {
     /// No name was met yet.
     None,

@@ -8,7 +8,7 @@ use sg_text::NoMemory;
 use vl_pieces::is_among;
 
 /// Ports of a module that are supplies of 0 and of 1: none but of the top.
-#[derive(Clone, Copy, Debug)]
+#[derive(Clone, Copy)]
 pub struct Supplies<'w> {
     pub zeros: &'w [&'w str],
     pub ones: &'w [&'w str],

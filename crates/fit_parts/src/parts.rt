@@ -10,7 +10,7 @@ use std::alloc::Global;
 use vl_token::{Token, TokenKind};
 
 /// What the first two tokens of a part say.
-#[derive(Clone, Copy, Debug)]
+#[derive(Clone, Copy)]
 pub struct Heading<'a> {
     /// Its name, where one stands there.
     pub name: Option<&'a [u8]>,

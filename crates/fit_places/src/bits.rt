@@ -5,7 +5,7 @@ use sg_text::NoMemory;
 use vl_tree::{Direction, Expression, Range, Select, Term};
 
 /// A bit of a net of a module, by its position from the left.
-#[derive(Clone, Copy, Debug, PartialEq)]
+#[derive(Clone, Copy, PartialEq)]
 pub struct Bit<'a> {
     pub name: &'a [u8],
     pub position: u64,

@@ -7,7 +7,7 @@ use std::alloc::Global;
 use vl_tree::{CheckName, EdgePair, EdgeWord, Term};
 
 /// An edge of a path or a timing check.
-#[derive(Clone, Copy, Debug, PartialEq, Eq)]
+#[derive(Clone, Copy, PartialEq, Eq)]
 pub enum CellEdge {
     Any,
     Posedge,

@@ -146,7 +146,7 @@ fn outer_bit<'a>(
 }
 
 // A net: in which instance on a way it is the outermost, and its bit there.
-#[derive(Debug, Drop)]
+#[derive(Drop)]
 struct Home {
     depth: usize,
     name: Vec<u8>,

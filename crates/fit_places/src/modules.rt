@@ -10,7 +10,7 @@ use vl_tree::{
 };
 
 /// A net of a module: whether it is a port, and its bits.
-#[derive(Clone, Copy, Debug, PartialEq)]
+#[derive(Clone, Copy, PartialEq)]
 pub struct Net {
     pub direction: Option<Direction>,
     pub range: Option<Range>,

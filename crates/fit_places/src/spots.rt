@@ -5,14 +5,14 @@ use sg_text::NoMemory;
 use std::alloc::Global;
 
 /// An instance in a module: the places of both.
-#[derive(Clone, Copy, Debug, PartialEq, Eq)]
+#[derive(Clone, Copy, PartialEq, Eq)]
 pub struct Step {
     pub module: usize,
     pub child: usize,
 }
 
 /// An instance: the place of its module, and the way to it.
-#[derive(Debug, Drop)]
+#[derive(Drop)]
 pub struct Spot {
     pub module: usize,
     pub steps: Vec<Step>,

@@ -5,7 +5,7 @@ use sg_text::{Keyword, NoMemory};
 use vl_token::{Symbol, Token};
 
 /// The edge, the sources and the destinations of a path.
-#[derive(Clone, Copy, Debug)]
+#[derive(Clone, Copy)]
 pub struct Ends {
     pub edge: Option<bool>,
     pub sources: Run,
@@ -13,7 +13,7 @@ pub struct Ends {
 }
 
 /// How the ends of two paths are to one another.
-#[derive(Clone, Copy, Debug, PartialEq, Eq)]
+#[derive(Clone, Copy, PartialEq, Eq)]
 pub enum Relation {
     Same,
     /// No source leads to one destination of both at one edge.

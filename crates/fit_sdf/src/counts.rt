@@ -4,7 +4,7 @@ use sdf_tree::Keyword;
 use sg_text::NoMemory;
 
 /// The entries of a word: how many are for a place of the netlist, and how many there are.
-#[derive(Clone, Copy, Debug)]
+#[derive(Clone, Copy)]
 pub struct Count {
     pub word: &'static str,
     pub found: u64,

@@ -1,10 +1,7 @@
 //! The shape of a netlist: instances that go, are cut out, give way to what their modules hold, or are of copies of their cells.
 #![tactic(auto)]
 
-mod globs;
 mod shaping;
-mod twins;
-mod walking;
 mod writing;
 
 pub use shaping::shape;

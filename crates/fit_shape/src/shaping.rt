@@ -1,15 +1,16 @@
 // What is made of a netlist before any rule looks at its statements.
 ghost use Rattle.std.specs.Prelude.{◌≡◌, map};
 
-use crate::twins::{Copying, twin_words};
-use crate::walking::{Quiet, Turn, Twin, walk_below};
 use crate::writing::Writer;
 use fit_changes::{Changes, Unfit};
-use fit_items::{Edit, Module, Wishes, add_edits};
+use fit_copies::{Copying, Quiet, Turn, Twin, twin_words, walk_below};
+use fit_cuts::{Cuts, add_cut, add_dropped};
+use fit_items::{Edit, Instance, Module, Wishes, add_edits};
 use fit_library::{
-    Fate, Fates, Library, Source, Spot, Unit, push_instance, read_library, statement_of, top_of,
+    Fate, Fates, Library, Source, Spot, Statement, Unit, push_instance, read_library, statement_of,
+    top_of,
 };
-use fit_wrappers::{Cuts, Moved, add_cut, add_dropped, add_flattened};
+use fit_wrappers::{Moved, add_flattened};
 use indexmap::{IndexMap, IndexSet};
 use sg_text::NoMemory;
 use std::alloc::Global;
@@ -32,6 +33,23 @@ fn told_turn(alloc: Global, turn: &Turn) -> Result<Vec<u8>, NoMemory> {
     what.extend_from_slice(b" is of ")?;
     what.extend_from_slice(&turn.module)?;
     Ok(what)
+}
+
+fn fate_of(
+    alloc: Global,
+    source: Source<'_, '_, '_>,
+    statement: Statement<'_>,
+    instance: &Instance,
+    turn: &Turn,
+) -> Result<Fate, NoMemory> {
+    let module = Some(turn.module.as_slice());
+    let mut words = Vec::new(alloc);
+    push_instance(alloc, source, statement, instance, module, &mut words)?;
+    Ok(Fate {
+        rule: turn.rule,
+        what: told_turn(alloc, turn)?,
+        words,
+    })
 }
 
 // An instance becomes one of a copy.
@@ -59,17 +77,26 @@ fn add_turn(
         part: unit.part,
         files,
     };
-    let module = Some(turn.module.as_slice());
-    let mut words = Vec::new(alloc);
-    push_instance(alloc, source, statement, instance, module, &mut words)?;
     let spot = Spot {
         unit: number,
         item: turn.item,
         instance: turn.instance,
     };
-    let what = told_turn(alloc, turn)?;
-    let rule = turn.rule;
-    fates.insert(spot, Fate { rule, what, words })?;
+    fates.insert(spot, fate_of(alloc, source, statement, instance, turn)?)?;
+    Ok(())
+}
+
+fn add_turns(
+    alloc: Global,
+    library: &Library<'_, '_>,
+    files: &[Changes<'_>],
+    number: usize,
+    turns: &[Turn],
+    fates: &mut Fates,
+) -> Result<(), NoMemory> {
+    for turn in turns {
+        add_turn(alloc, library, files, number, turn, fates)?;
+    }
     Ok(())
 }
 
@@ -95,8 +122,8 @@ fn add_walk(
         return Ok(());
     }
     let mut walk = walk_below(alloc, library, &plan.fates, top, wishes)?;
-    for (number, turn) in &walk.turns {
-        add_turn(alloc, library, files, *number, turn, &mut plan.fates)?;
+    for (number, turns) in &walk.turns {
+        add_turns(alloc, library, files, *number, turns, &mut plan.fates)?;
     }
     for path in &walk.unmet {
         plan.unfit.push(no_instance(alloc, path)?)?;
@@ -133,12 +160,16 @@ fn told_twin(alloc: Global, twin: &Twin, unit: &Unit<'_, '_>) -> Result<Vec<u8>,
     let mut what = Vec::from_slice(alloc, &twin.name)?;
     what.extend_from_slice(b" is ")?;
     what.extend_from_slice(unit.name)?;
-    what.extend_from_slice(match twin.quiet {
-        Quiet::Checks => b" without checks".as_slice(),
-        Quiet::Notifiers => b" whose checks name no notifier".as_slice(),
-        Quiet::Nothing => b" with instances of such copies".as_slice(),
-    })?;
+    what.extend_from_slice(told_quiet(twin.quiet))?;
     Ok(what)
+}
+
+fn told_quiet(quiet: Quiet) -> &'static [u8] {
+    match quiet {
+        Quiet::Checks => b" without checks",
+        Quiet::Notifiers => b" whose checks name no notifier",
+        Quiet::Nothing => b" with instances of such copies",
+    }
 }
 
 fn write_twins(
@@ -148,22 +179,30 @@ fn write_twins(
     writer: &mut Writer<'_, '_, '_>,
 ) -> Result<(), NoMemory> {
     for twin in &plan.twins {
-        if twin.unit != number {
-            continue;
+        if twin.unit == number {
+            write_twin(plan, twin, unit, writer)?;
         }
-        let copying = Copying {
-            alloc: writer.alloc,
-            source: writer.source,
-            number,
-            fates: &plan.fates,
-            moved: plan.moved.get(&number),
-            twin,
-        };
-        let words = twin_words(&copying, unit)?;
-        let what = told_twin(writer.alloc, twin, unit)?;
-        writer.add_behind(&words, twin.rule, &what)?;
     }
     Ok(())
+}
+
+fn write_twin(
+    plan: &Plan,
+    twin: &Twin,
+    unit: &Unit<'_, '_>,
+    writer: &mut Writer<'_, '_, '_>,
+) -> Result<(), NoMemory> {
+    let copying = Copying {
+        alloc: writer.alloc,
+        source: writer.source,
+        number: twin.unit,
+        fates: &plan.fates,
+        moved: plan.moved.get(&twin.unit),
+        twin,
+    };
+    let words = twin_words(&copying, unit)?;
+    let what = told_twin(writer.alloc, twin, unit)?;
+    writer.add_behind(&words, twin.rule, &what)
 }
 
 // The changes of a part.

@@ -1,13 +1,13 @@
 // The changes of a part.
-use fit_changes::{Changes, Rule};
+use fit_changes::Rule;
+use fit_cuts::Input;
 use fit_items::{
     Declared, Edit, Item, ItemKind, Module, Run, Span, edit_of, is_symbol, name_at, text_of,
 };
 use fit_library::{
-    BlockStatement, Fate, Fates, Source, Spot, Statement, Unit, Word, push_block_statement,
+    BlockStatement, Fate, Fates, Source, Spot, Statement, Word, push_block_statement, push_copies,
     push_fate, push_fixed, push_words, run_of_token, span_of_run, statement_of,
 };
-use fit_wrappers::Input;
 use indexmap::IndexMap;
 use sg_text::NoMemory;
 use std::alloc::Global;
@@ -37,6 +37,24 @@ fn one_instance(unit: usize, item: usize, instance: usize) -> Spot {
     }
 }
 
+// No bytes, before a span.
+fn none_before(span: Span) -> Span {
+    Span {
+        file: span.file,
+        byte: span.byte,
+        end: span.byte,
+    }
+}
+
+// No bytes, behind a span.
+fn none_behind(span: Span) -> Span {
+    Span {
+        file: span.file,
+        byte: span.end,
+        end: span.end,
+    }
+}
+
 impl<'w, 't, 'a> Writer<'w, 't, 'a> {
     // A change of a span, with as many line feeds as it had.
     fn change(
@@ -46,18 +64,18 @@ impl<'w, 't, 'a> Writer<'w, 't, 'a> {
         rule: Rule,
         what: &[u8],
     ) -> Result<(), NoMemory> {
-        let mut text = Vec::new(self.alloc);
-        push_words(&mut text, words)?;
-        let old = text_of(self.source.files, span).unwrap_or(b"");
-        for b in old {
-            if *b == LINE_FEED {
-                text.push(LINE_FEED)?;
-            }
-        }
+        let text = self.text_for(span, words)?;
         let what = Vec::from_slice(self.alloc, what)?;
         let edit = edit_of(self.alloc, span, &text, rule, self.name, what)?;
         self.edits.push(edit)?;
         Ok(())
+    }
+
+    fn text_for(&self, span: Span, words: &[Word]) -> Result<Vec<u8>, NoMemory> {
+        let mut text = Vec::new(self.alloc);
+        push_words(&mut text, words)?;
+        push_feeds(&mut text, text_of(self.source.files, span).unwrap_or(b""))?;
+        Ok(text)
     }
 
     // Words before the token at a place.
@@ -68,19 +86,10 @@ impl<'w, 't, 'a> Writer<'w, 't, 'a> {
         rule: Rule,
         what: &[u8],
     ) -> Result<(), NoMemory> {
-        let run = Run {
-            first: at,
-            end: at.saturating_add(1),
-        };
-        let Some(span) = span_of_run(self.source, run) else {
-            return Ok(());
-        };
-        let none = Span {
-            file: span.file,
-            byte: span.byte,
-            end: span.byte,
-        };
-        self.change(none, words, rule, what)
+        match span_of_run(self.source, run_of_token(at)) {
+            Some(span) => self.change(none_before(span), words, rule, what),
+            None => Ok(()),
+        }
     }
 
     fn fate(&self, item: usize, instance: usize) -> Option<&'w Fate> {
@@ -170,11 +179,7 @@ impl<'w, 't, 'a> Writer<'w, 't, 'a> {
             return Ok(());
         };
         let words = self.statement_words(place, statement, with_block)?;
-        let behind = Span {
-            file: span.file,
-            byte: span.end,
-            end: span.end,
-        };
+        let behind = none_behind(span);
         let mut is_first = true;
         for number in 0..statement.instances.len() {
             if let Some(fate) = self.fate(place, number) {
@@ -226,30 +231,38 @@ impl<'w, 't, 'a> Writer<'w, 't, 'a> {
 
     fn other_nets(&self, item: &Item, names: &[Declared]) -> Result<Vec<Word>, NoMemory> {
         let mut words = Vec::new(self.alloc);
+        let front = Run {
+            first: item.whole.first,
+            end: names.first().map_or(item.whole.first, |first| first.name),
+        };
         for declared in names {
-            if self.is_input(declared) {
-                continue;
+            if !self.is_input(declared) {
+                self.push_net(front, declared, &mut words)?;
             }
-            if words.is_empty() {
-                let front = Run {
-                    first: item.whole.first,
-                    end: names.first().map_or(item.whole.first, |first| first.name),
-                };
-                self.source.push_run(self.alloc, &mut words, front)?;
-            } else {
-                push_fixed(self.alloc, &mut words, ",", false)?;
-            }
-            let end = declared.value.end.max(declared.name.saturating_add(1));
-            let whole = Run {
-                first: declared.name,
-                end,
-            };
-            self.source.push_run(self.alloc, &mut words, whole)?;
         }
         if !words.is_empty() {
             push_fixed(self.alloc, &mut words, ";", false)?;
         }
         Ok(words)
+    }
+
+    // A net in its declaration: behind the front of it where it is the first, else behind a comma.
+    fn push_net(
+        &self,
+        front: Run,
+        declared: &Declared,
+        words: &mut Vec<Word>,
+    ) -> Result<(), NoMemory> {
+        if words.is_empty() {
+            self.source.push_run(self.alloc, words, front)?;
+        } else {
+            push_fixed(self.alloc, words, ",", false)?;
+        }
+        let whole = Run {
+            first: declared.name,
+            end: declared.value.end.max(declared.name.saturating_add(1)),
+        };
+        self.source.push_run(self.alloc, words, whole)
     }
 
     // The statements that moved into the block that is there.
@@ -278,24 +291,45 @@ impl<'w, 't, 'a> Writer<'w, 't, 'a> {
     ) -> Result<Vec<Word>, NoMemory> {
         let mut words = Vec::new(self.alloc);
         if with_parens {
-            push_fixed(self.alloc, &mut words, "(", true)?;
+            self.push_list(inputs, &mut words)?;
+        } else {
+            self.push_ports(inputs, &mut words)?;
         }
-        let is_ansi = self.is_ansi();
+        Ok(words)
+    }
+
+    fn push_list(
+        &self,
+        inputs: &IndexMap<Vec<u8>, Input>,
+        words: &mut Vec<Word>,
+    ) -> Result<(), NoMemory> {
+        push_fixed(self.alloc, words, "(", true)?;
+        self.push_ports(inputs, words)?;
+        push_fixed(self.alloc, words, ")", false)
+    }
+
+    fn push_ports(
+        &self,
+        inputs: &IndexMap<Vec<u8>, Input>,
+        words: &mut Vec<Word>,
+    ) -> Result<(), NoMemory> {
         let mut is_first = self.module.head.is_empty();
         for (name, input) in inputs.iter() {
             if !is_first {
-                push_fixed(self.alloc, &mut words, ",", false)?;
+                push_fixed(self.alloc, words, ",", false)?;
             }
             is_first = false;
-            if is_ansi {
-                push_input(self.alloc, &mut words, input)?;
-            }
-            words.push(Word::name(self.alloc, name, true)?)?;
+            self.push_port(name, input, words)?;
         }
-        if with_parens {
-            push_fixed(self.alloc, &mut words, ")", false)?;
+        Ok(())
+    }
+
+    fn push_port(&self, name: &[u8], input: &Input, words: &mut Vec<Word>) -> Result<(), NoMemory> {
+        if self.is_ansi() {
+            push_input(self.alloc, words, input)?;
         }
-        Ok(words)
+        words.push(Word::name(self.alloc, name, true)?)?;
+        Ok(())
     }
 
     // `input name;` for each of the new inputs.
@@ -303,9 +337,7 @@ impl<'w, 't, 'a> Writer<'w, 't, 'a> {
         let mut words = Vec::new(self.alloc);
         push_fixed(self.alloc, &mut words, " ", false)?;
         for (name, input) in inputs.iter() {
-            push_input(self.alloc, &mut words, input)?;
-            words.push(Word::name(self.alloc, name, true)?)?;
-            push_fixed(self.alloc, &mut words, ";", false)?;
+            push_declaration(self.alloc, &mut words, name, input)?;
         }
         Ok(words)
     }
@@ -324,24 +356,36 @@ impl<'w, 't, 'a> Writer<'w, 't, 'a> {
             .part
             .get(end)
             .is_some_and(|token| is_symbol(token, Symbol::Semicolon));
-        let words = self.head_words(inputs, !is_list)?;
-        let what = told_inputs(self.alloc, inputs)?;
-        self.insert(end, &words, Rule::Cut, &what)?;
+        self.list_inputs(inputs, end, is_list)?;
         if self.is_ansi() {
             return Ok(());
         }
         let semicolon = if is_list { end.saturating_add(1) } else { end };
         let words = self.declarations(inputs)?;
-        let what = b"the new inputs are declared";
-        match span_of_run(self.source, run_of_token(semicolon)) {
-            Some(span) => {
-                let behind = Span {
-                    file: span.file,
-                    byte: span.end,
-                    end: span.end,
-                };
-                self.change(behind, &words, Rule::Cut, what)
-            }
+        self.insert_behind(semicolon, &words, Rule::Cut, b"the new inputs are declared")
+    }
+
+    fn list_inputs(
+        &mut self,
+        inputs: &IndexMap<Vec<u8>, Input>,
+        end: usize,
+        is_list: bool,
+    ) -> Result<(), NoMemory> {
+        let words = self.head_words(inputs, !is_list)?;
+        let what = told_inputs(self.alloc, inputs)?;
+        self.insert(end, &words, Rule::Cut, &what)
+    }
+
+    // Words behind the token at a place.
+    fn insert_behind(
+        &mut self,
+        at: usize,
+        words: &[Word],
+        rule: Rule,
+        what: &[u8],
+    ) -> Result<(), NoMemory> {
+        match span_of_run(self.source, run_of_token(at)) {
+            Some(span) => self.change(none_behind(span), words, rule, what),
             None => Ok(()),
         }
     }
@@ -356,32 +400,41 @@ impl<'w, 't, 'a> Writer<'w, 't, 'a> {
             match &item.kind {
                 ItemKind::Nets { names, .. } => self.change_nets(item, names)?,
                 ItemKind::Specify(_) if own == Some(place) => self.change_block(item)?,
-                _ => {}
-            }
-            if let Some(statement) = statement_of(item) {
-                if self.has_fate(place, item) {
-                    self.change_statement(place, item, statement, block == Some(place))?;
-                }
+                _ => self.change_instances(place, item, block == Some(place))?,
             }
         }
         Ok(())
     }
 
+    fn change_instances(
+        &mut self,
+        place: usize,
+        item: &Item,
+        with_block: bool,
+    ) -> Result<(), NoMemory> {
+        match statement_of(item) {
+            Some(statement) if self.has_fate(place, item) => {
+                self.change_statement(place, item, statement, with_block)
+            }
+            _ => Ok(()),
+        }
+    }
+
     /// Adds words behind the last token of the part.
     pub fn add_behind(&mut self, words: &[Word], rule: Rule, what: &[u8]) -> Result<(), NoMemory> {
         let last = self.source.part.len().saturating_sub(1);
-        match span_of_run(self.source, run_of_token(last)) {
-            Some(span) => {
-                let behind = Span {
-                    file: span.file,
-                    byte: span.end,
-                    end: span.end,
-                };
-                self.change(behind, words, rule, what)
-            }
-            None => Ok(()),
+        self.insert_behind(last, words, rule, what)
+    }
+}
+
+// Adds the line feeds of a text.
+fn push_feeds(text: &mut Vec<u8>, old: &[u8]) -> Result<(), NoMemory> {
+    for b in old {
+        if *b == LINE_FEED {
+            text.push(LINE_FEED)?;
         }
     }
+    Ok(())
 }
 
 fn is_specify(item: &Item) -> bool {
@@ -393,10 +446,19 @@ fn is_specify(item: &Item) -> bool {
 
 fn push_input(alloc: Global, words: &mut Vec<Word>, input: &Input) -> Result<(), NoMemory> {
     push_fixed(alloc, words, "input", true)?;
-    for word in &input.range {
-        words.push(word.copy(alloc)?)?;
-    }
-    Ok(())
+    push_copies(alloc, words, &input.range)
+}
+
+// `input name;`
+fn push_declaration(
+    alloc: Global,
+    words: &mut Vec<Word>,
+    name: &[u8],
+    input: &Input,
+) -> Result<(), NoMemory> {
+    push_input(alloc, words, input)?;
+    words.push(Word::name(alloc, name, true)?)?;
+    push_fixed(alloc, words, ";", false)
 }
 
 // `new inputs: A B`. Takes memory.

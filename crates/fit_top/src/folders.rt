@@ -89,7 +89,7 @@ impl<R: Files> Folders for FileFolders<'_, R> {
 }
 
 // Two names that reach one file.
-#[derive(Debug, Drop)]
+#[derive(Drop)]
 struct Pair {
     one: String,
     other: String,
@@ -114,7 +114,7 @@ impl Pair {
 }
 
 /// Folders in memory: each is made, unless its calls are to fail; names that reach one file are listed.
-#[derive(Debug, Drop)]
+#[derive(Drop)]
 pub struct MemoryFolders {
     alloc: Global,
     pairs: Vec<Pair>,

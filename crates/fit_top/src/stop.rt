@@ -4,7 +4,7 @@ use sg_text::NoMemory;
 use std::alloc::{AllocError, AllocFailed};
 
 /// A call of the shelf that failed, a folder that couldn't be made, by name, or want of memory.
-#[derive(Clone, Copy, Debug)]
+#[derive(Clone, Copy)]
 pub enum Stop<'a> {
     Failed,
     Folder(&'a str),

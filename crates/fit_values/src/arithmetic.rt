@@ -7,7 +7,7 @@ use sg_text::NoMemory;
 use vl_token::{Symbol, Token, TokenKind};
 
 /// What may stand as an amount beside numbers.
-#[derive(Clone, Copy, Debug, PartialEq, Eq)]
+#[derive(Clone, Copy, PartialEq, Eq)]
 pub enum Amounts {
     Numbers,
     Names,

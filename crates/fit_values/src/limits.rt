@@ -9,7 +9,7 @@ use vl_pieces::{is_among, is_word};
 use vl_token::{Token, TokenKind};
 
 // Where the limits of a check stand among its arguments, and whether they may be below 0.
-#[derive(Clone, Copy, Debug, PartialEq, Eq)]
+#[derive(Clone, Copy, PartialEq, Eq)]
 struct Form {
     first: usize,
     count: usize,

@@ -6,7 +6,7 @@ use std::alloc::Global;
 use vl_token::{Symbol, Token, TokenKind};
 
 // What waits for its operands.
-#[derive(Clone, Copy, Debug, PartialEq, Eq)]
+#[derive(Clone, Copy, PartialEq, Eq)]
 enum Mark {
     Open,
     Plus,

@@ -7,7 +7,7 @@ use vl_token::{Base, Token, TokenKind};
 
 /// What kind of number a constant is: a whole number of 32 bits, one without a sign, or a real number. The quotient of whole
 /// numbers is a whole number.
-#[derive(Clone, Copy, Debug, PartialEq, Eq)]
+#[derive(Clone, Copy, PartialEq, Eq)]
 pub enum NumberKind {
     Whole,
     Unsigned,
@@ -15,7 +15,7 @@ pub enum NumberKind {
 }
 
 /// A number as a fraction without a common factor, whose lower part is above 0.
-#[derive(Clone, Copy, Debug, PartialEq, Eq)]
+#[derive(Clone, Copy, PartialEq, Eq)]
 pub struct Number {
     top: i64,
     bottom: i64,

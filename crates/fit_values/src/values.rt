@@ -11,7 +11,7 @@ use std::alloc::Global;
 use vl_token::{Symbol, Token};
 
 /// Which of three values of a delay is meant.
-#[derive(Clone, Copy, Debug, PartialEq, Eq)]
+#[derive(Clone, Copy, PartialEq, Eq)]
 pub enum Corner {
     Min,
     Typ,
@@ -19,7 +19,7 @@ pub enum Corner {
 }
 
 /// A minimal, a typical and a maximal value.
-#[derive(Clone, Copy, Debug)]
+#[derive(Clone, Copy)]
 pub struct Value {
     pub min: Number,
     pub typ: Number,
@@ -71,7 +71,7 @@ impl Value {
 }
 
 // A constant that is declared.
-#[derive(Clone, Copy, Debug)]
+#[derive(Clone, Copy)]
 struct Constant {
     value: Value,
     // whether its name may stand as a delay or a limit: it is a specparam of a specify block
@@ -178,7 +178,7 @@ impl<'a> Values<'a> {
 }
 
 // What stands before the names of constants.
-#[derive(Clone, Copy, Debug, PartialEq, Eq)]
+#[derive(Clone, Copy, PartialEq, Eq)]
 enum TypeWord {
     Nothing,
     Integer,

@@ -1,7 +1,7 @@
 -- The words of the command line and what they ask for.
 use Rattle.std.specs.Prelude.{ℕ, List, [], ◌∷◌, ◌++◌, length, map, Bool, true, false, ◌&&◌, count_by, not, Option, Some, None, option_and_then, nat_le, codes, if◌then◌else◌}
 use Rattle.std.specs.List.{filter_map, list_any, list_all, slice_get}
-use Rattle.fit_words.specs.Arguments.{Argument, setting, flag, netlist, is_text, arguments_of}
+use Rattle.fit_words.specs.Arguments.{Argument, setting, flag, netlist, is_text, begins, arguments_of}
 use Rattle.fit_words.specs.Paths.{are_distinct, has_last, is_folder_of, last_of, name_in}
 
 -- The netlists' files in their order, the folder for what is made of them, the SDF files in theirs, and the top module; macros that are
@@ -67,9 +67,13 @@ options =
     codes "out" ∷ codes "sdf" ∷ codes "top" ∷ codes "define" ∷ codes "include" ∷ codes "supply0" ∷ codes "supply1"
     ∷ codes "cut" ∷ codes "drop" ∷ codes "no-checks" ∷ codes "no-notifier" ∷ []
 
--- an option's name is one of these, and no value and no netlist's name is empty
+-- a macro that is to be defined has no name
+abbrev pub has_no_name : (name value : List ℕ) → Bool
+has_no_name name value = is_text (codes "define") name && begins value (codes "=")
+
+-- an option's name is one of these, and no value, no netlist's name and no macro's name is empty
 abbrev pub is_known : Argument → Bool
-is_known (setting name value) = list_any (is_text name) options && nat_le 1 (length value)
+is_known (setting name value) = list_any (is_text name) options && nat_le 1 (length value) && not (has_no_name name value)
 is_known (flag _) = true
 is_known (netlist name) = nat_le 1 (length name)
 

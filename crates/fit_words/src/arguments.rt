@@ -9,7 +9,7 @@ use sg_text::NoMemory;
 use std::alloc::Global;
 
 /// What the words say, one by one.
-#[derive(Clone, Copy, Debug)]
+#[derive(Clone, Copy)]
 pub enum Argument<'a> {
     /// An option's name, without its dashes, and its value.
     Setting { name: &'a str, value: &'a str },

@@ -3,7 +3,7 @@ ghost use Rattle.std.specs.Prelude.{◌≡◌, map, IfOk, option_map, is_some, c
 ghost use Rattle.std.specs.List.{list_any, list_all};
 ghost use Rattle.fit_words.specs.Arguments.{is_text};
 ghost use Rattle.fit_words.specs.ArgumentsSeen.{argument_seen};
-ghost use Rattle.fit_words.specs.Words.{value_under, value_of, values_of, netlists_of, count_flag, options, is_known, is_single, are_sound, is_this};
+ghost use Rattle.fit_words.specs.Words.{value_under, value_of, values_of, netlists_of, count_flag, options, has_no_name, is_known, is_single, are_sound, is_this};
 
 use crate::arguments::Argument;
 use sg_text::NoMemory;
@@ -115,11 +115,20 @@ fn is_option(name: &str) -> bool
     is_one_of(&OPTIONS, name)
 }
 
+// Whether a macro that is to be defined has no name.
+fn has_no_name(name: &str, value: &str) -> bool
+    ensures { result ≡ has_no_name name.now value.now }
+{
+    name == "define" && value.starts_with("=")
+}
+
 fn is_known(argument: &Argument<'_>) -> bool
     ensures { result ≡ is_known (argument_seen argument.now) }
 {
     match argument {
-        Argument::Setting { name, value } => is_option(name) && 1 <= value.len(),
+        Argument::Setting { name, value } => {
+            is_option(name) && 1 <= value.len() && !has_no_name(name, value)
+        }
         Argument::Flag(_) => true,
         Argument::Netlist(name) => 1 <= name.len(),
     }

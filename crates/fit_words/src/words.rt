@@ -13,7 +13,7 @@ use sg_text::NoMemory;
 use std::alloc::Global;
 
 /// What the words ask for. The files are named as the words name them.
-#[derive(Debug, Drop, PartialEq)]
+#[derive(Drop, PartialEq)]
 pub struct Asked<'a> {
     /// The netlist's files, one or more, in their order.
     pub netlists: Vec<&'a str>,

@@ -14,8 +14,7 @@ use fit_library::{
 use indexmap::{IndexMap, IndexSet};
 use sg_text::NoMemory;
 use std::alloc::Global;
-use std::mem;
-use vl_token::{Mark, Symbol, Token};
+use vl_token::{Symbol, Token};
 
 // Flat modules of more words aren't put in place.
 const MOST: usize = 1 << 20;
@@ -64,12 +63,11 @@ struct Flattening<'f, 't, 'a> {
 
 /// A module that is being made flat.
 #[derive(Drop)]
-struct Making {
+struct Making<'a> {
     taken: Taken,
-    words: Vec<Word>,
-    parts: Vec<BlockStatement>,
+    // without its ports
+    flat: Flat<'a>,
     moved: Vec<BlockStatement>,
-    terminals: Terminals,
     is_movable: bool,
     // whether no instance may give way
     is_fixed: bool,
@@ -123,10 +121,16 @@ impl<'f, 't, 'a> Flattening<'f, 't, 'a> {
                 break;
             };
             if let Some(unit) = self.library.units.get(number) {
-                for child in children_of(self.alloc, self.library, unit)?.as_slice() {
-                    self.needed.insert(*child)?;
-                }
+                self.add_children(unit)?;
             }
+        }
+        Ok(())
+    }
+
+    fn add_children(&mut self, unit: &Unit<'_, '_>) -> Result<(), NoMemory> {
+        let children = children_of(self.alloc, self.library, unit)?;
+        for child in children.as_slice() {
+            self.needed.insert(*child)?;
         }
         Ok(())
     }
@@ -150,16 +154,29 @@ impl<'f, 't, 'a> Flattening<'f, 't, 'a> {
             let Some(number) = self.needed.get_index(back).copied() else {
                 break;
             };
-            let Some(unit) = self.library.units.get(number) else {
-                continue;
-            };
-            if !self.flats.contains_key(&number) && self.is_ready(unit)? {
-                let flat = self.flat_of(number, unit, fates, moved)?;
-                self.flats.insert(number, flat)?;
+            if self.flatten(number, fates, moved)? {
                 is_any = true;
             }
         }
         Ok(is_any)
+    }
+
+    // Makes a module flat that is ready. Answers whether it was and is now.
+    fn flatten(
+        &mut self,
+        number: usize,
+        fates: &mut Fates,
+        moved: &mut Moved,
+    ) -> Result<bool, NoMemory> {
+        let Some(unit) = self.library.units.get(number) else {
+            return Ok(false);
+        };
+        if self.flats.contains_key(&number) || !self.is_ready(unit)? {
+            return Ok(false);
+        }
+        let flat = self.flat_of(number, unit, fates, moved)?;
+        self.flats.insert(number, flat)?;
+        Ok(true)
     }
 
     fn flat_of(
@@ -181,61 +198,86 @@ impl<'f, 't, 'a> Flattening<'f, 't, 'a> {
             scope: &scope,
             mark,
         };
-        let mut making = Making {
-            taken: names_of(self.alloc, unit)?,
+        let mut making = self.begun(unit, module, host)?;
+        self.add_items(host, number, &module.items, &mut making, fates)?;
+        self.made(number, &scope, making, moved)
+    }
+
+    // The form of a module before its items are seen.
+    fn begun(
+        &self,
+        unit: &Unit<'t, 'a>,
+        module: &Module,
+        host: Host<'_, 't, 'a>,
+    ) -> Result<Making<'a>, NoMemory> {
+        let flat = Flat {
+            mark: host.mark,
+            ports: Vec::new(self.alloc),
             words: Vec::new(self.alloc),
             parts: Vec::new(self.alloc),
-            moved: Vec::new(self.alloc),
             terminals: Terminals::new(self.alloc),
+        };
+        Ok(Making {
+            taken: names_of(self.alloc, unit)?,
+            flat,
+            moved: Vec::new(self.alloc),
             is_movable: !has_register(tokens_of(unit.part, module.head_run)),
             is_fixed: reaches_down(unit.part) || !are_open(host.source, module),
-        };
-        for (place, item) in module.items.iter().enumerate() {
+        })
+    }
+
+    fn add_items(
+        &self,
+        host: Host<'_, 't, 'a>,
+        number: usize,
+        items: &[Item],
+        making: &mut Making<'a>,
+        fates: &mut Fates,
+    ) -> Result<(), NoMemory> {
+        for (place, item) in items.iter().enumerate() {
             let spot = Spot {
                 unit: number,
                 item: place,
                 instance: 0,
             };
-            self.add_item(host, spot, item, &mut making, fates)?;
+            self.add_item(host, spot, item, making, fates)?;
         }
-        self.made(number, mark, &scope, making, moved)
+        Ok(())
     }
 
     // The form of a module all of whose items were seen.
     fn made(
         &self,
         number: usize,
-        mark: Mark,
         scope: &Scope<'a>,
-        making: Making,
+        making: Making<'a>,
         moved: &mut Moved,
     ) -> Result<Option<Flat<'a>>, NoMemory> {
-        let mut making = making;
-        if self.wrappers.contains(&number) {
-            let own = mem::replace(&mut making.moved, Vec::new(self.alloc));
-            moved.insert(number, own)?;
-        }
-        if !making.is_movable || making.words.len() >= MOST {
-            return Ok(None);
-        }
-        let Some(ports) = ports_of(self.alloc, scope)? else {
-            return Ok(None);
-        };
         let Making {
-            words,
-            parts,
-            terminals,
+            flat,
+            moved: own,
+            is_movable,
             ..
         } = making;
-        let Terminals { starts, ends } = terminals;
-        Ok(Some(Flat {
-            mark,
-            ports,
-            words,
-            parts,
-            starts,
-            ends,
-        }))
+        if self.wrappers.contains(&number) {
+            moved.insert(number, own)?;
+        }
+        if is_movable && flat.words.len() < MOST {
+            self.with_ports(flat, scope)
+        } else {
+            Ok(None)
+        }
+    }
+
+    fn with_ports(&self, flat: Flat<'a>, scope: &Scope<'a>) -> Result<Option<Flat<'a>>, NoMemory> {
+        let mut flat = flat;
+        match ports_of(self.alloc, scope)? {
+            Some(ports) => {
+                flat.ports = ports;
+                Ok(Some(flat))
+            }
+            None => Ok(None),
+        }
     }
 
     fn add_item(
@@ -243,7 +285,7 @@ impl<'f, 't, 'a> Flattening<'f, 't, 'a> {
         host: Host<'_, 't, 'a>,
         spot: Spot,
         item: &Item,
-        making: &mut Making,
+        making: &mut Making<'a>,
         fates: &mut Fates,
     ) -> Result<(), NoMemory> {
         if !is_movable(host.source.part, item) {
@@ -255,43 +297,55 @@ impl<'f, 't, 'a> Flattening<'f, 't, 'a> {
                 None => Ok(()),
             },
             ItemKind::Nets { .. } | ItemKind::Registers { .. } => {
-                let is_declared = push_declaration(
-                    self.alloc,
-                    host.source,
-                    host.scope,
-                    item,
-                    &mut making.words,
-                )?;
-                if !is_declared {
-                    making.is_movable = false;
-                }
-                Ok(())
+                self.add_declaration(host, item, making)
             }
             ItemKind::Specify(parts) => self.add_parts(host, parts, making),
             ItemKind::Ports { .. } | ItemKind::Other => Ok(()),
             ItemKind::Params(_) | ItemKind::Assign { .. } | ItemKind::Gates { .. } => host
                 .source
-                .push_run(self.alloc, &mut making.words, item.whole),
+                .push_run(self.alloc, &mut making.flat.words, item.whole),
         }
+    }
+
+    fn add_declaration(
+        &self,
+        host: Host<'_, 't, 'a>,
+        item: &Item,
+        making: &mut Making<'a>,
+    ) -> Result<(), NoMemory> {
+        let words = &mut making.flat.words;
+        if !push_declaration(self.alloc, host.source, host.scope, item, words)? {
+            making.is_movable = false;
+        }
+        Ok(())
     }
 
     fn add_parts(
         &self,
         host: Host<'_, '_, '_>,
         parts: &[SpecifyPart],
-        making: &mut Making,
+        making: &mut Making<'a>,
     ) -> Result<(), NoMemory> {
         for statement in parts {
-            making
-                .parts
-                .push(block_statement_of(self.alloc, host.source, statement)?)?;
-            if let SpecifyKind::Path { head, .. } = statement.kind {
-                making
-                    .terminals
-                    .add_path(self.alloc, host.source.part, head)?;
-            }
+            self.add_part(host, statement, &mut making.flat)?;
         }
         Ok(())
+    }
+
+    fn add_part(
+        &self,
+        host: Host<'_, '_, '_>,
+        statement: &SpecifyPart,
+        flat: &mut Flat<'a>,
+    ) -> Result<(), NoMemory> {
+        flat.parts
+            .push(block_statement_of(self.alloc, host.source, statement)?)?;
+        match statement.kind {
+            SpecifyKind::Path { head, .. } => {
+                flat.terminals.add_path(self.alloc, host.source.part, head)
+            }
+            _ => Ok(()),
+        }
     }
 
     fn add_statement(
@@ -299,7 +353,7 @@ impl<'f, 't, 'a> Flattening<'f, 't, 'a> {
         host: Host<'_, 't, 'a>,
         spot: Spot,
         statement: Statement<'_>,
-        making: &mut Making,
+        making: &mut Making<'a>,
         fates: &mut Fates,
     ) -> Result<(), NoMemory> {
         for (number, instance) in statement.instances.iter().enumerate() {
@@ -308,21 +362,31 @@ impl<'f, 't, 'a> Flattening<'f, 't, 'a> {
                 item: spot.item,
                 instance: number,
             };
-            if fates.get(&own).is_none() {
-                self.put_in_place(host, own, statement, instance, making, fates)?;
-            } else {
-                let fate = fates.get(&own);
-                push_fate(
-                    self.alloc,
-                    host.source,
-                    statement,
-                    instance,
-                    fate,
-                    &mut making.words,
-                )?;
-            }
+            self.add_instance(host, own, statement, instance, making, fates)?;
         }
         Ok(())
+    }
+
+    fn add_instance(
+        &self,
+        host: Host<'_, 't, 'a>,
+        spot: Spot,
+        statement: Statement<'_>,
+        instance: &Instance,
+        making: &mut Making<'a>,
+        fates: &mut Fates,
+    ) -> Result<(), NoMemory> {
+        if fates.get(&spot).is_none() {
+            return self.put_in_place(host, spot, statement, instance, making, fates);
+        }
+        push_fate(
+            self.alloc,
+            host.source,
+            statement,
+            instance,
+            fates.get(&spot),
+            &mut making.flat.words,
+        )
     }
 
     // The form of the module of an instance, where that has no values for its parameters.
@@ -347,46 +411,87 @@ impl<'f, 't, 'a> Flattening<'f, 't, 'a> {
         spot: Spot,
         statement: Statement<'_>,
         instance: &Instance,
-        making: &mut Making,
+        making: &mut Making<'a>,
         fates: &mut Fates,
     ) -> Result<(), NoMemory> {
-        let inlined = match self.flat_for(host, statement) {
-            Some(flat) if !making.is_fixed && self.may_change(host, spot, statement) => {
-                inline(self.alloc, host, &mut making.taken, flat, instance)?
+        match self.inlined(host, spot, statement, instance, making)? {
+            Some(inlined) => {
+                self.add_fate(host, spot, statement, instance, &inlined.words, fates)?;
+                take_in(self.alloc, making, inlined)
             }
-            _ => None,
-        };
-        let Some(inlined) = inlined else {
-            return push_fate(
+            None => push_fate(
                 self.alloc,
                 host.source,
                 statement,
                 instance,
                 None,
-                &mut making.words,
-            );
-        };
-        if self.wrappers.contains(&spot.unit) {
-            let behind = b" gives way to what that holds";
-            let what = told_of(self.alloc, host.source, statement, instance, behind)?;
-            let words = copy_words(self.alloc, &inlined.words)?;
-            let rule = Rule::Wrapper;
-            fates.insert(spot, Fate { rule, what, words })?;
+                &mut making.flat.words,
+            ),
         }
-        take_in(self.alloc, making, inlined)
+    }
+
+    fn inlined(
+        &self,
+        host: Host<'_, 't, 'a>,
+        spot: Spot,
+        statement: Statement<'_>,
+        instance: &Instance,
+        making: &mut Making<'a>,
+    ) -> Result<Option<Inlined>, NoMemory> {
+        match self.flat_for(host, statement) {
+            Some(flat) if !making.is_fixed && self.may_change(host, spot, statement) => {
+                inline(self.alloc, host, &mut making.taken, flat, instance)
+            }
+            _ => Ok(None),
+        }
+    }
+
+    // The fate of an instance that gives way to words.
+    fn add_fate(
+        &self,
+        host: Host<'_, 't, 'a>,
+        spot: Spot,
+        statement: Statement<'_>,
+        instance: &Instance,
+        words: &[Word],
+        fates: &mut Fates,
+    ) -> Result<(), NoMemory> {
+        if !self.wrappers.contains(&spot.unit) {
+            return Ok(());
+        }
+        let behind = b" gives way to what that holds";
+        let what = told_of(self.alloc, host.source, statement, instance, behind)?;
+        let words = copy_words(self.alloc, words)?;
+        let rule = Rule::Wrapper;
+        fates.insert(spot, Fate { rule, what, words })?;
+        Ok(())
     }
 }
 
-// Adds what stands for an instance.
-fn take_in(alloc: Global, making: &mut Making, inlined: Inlined) -> Result<(), NoMemory> {
-    let mut inlined = inlined;
-    for part in &inlined.parts {
-        making.moved.push(copy_block_statement(alloc, part)?)?;
+fn add_copies(
+    alloc: Global,
+    moved: &mut Vec<BlockStatement>,
+    parts: &[BlockStatement],
+) -> Result<(), NoMemory> {
+    for part in parts {
+        moved.push(copy_block_statement(alloc, part)?)?;
     }
-    making.words.append(&mut inlined.words)?;
-    making.parts.append(&mut inlined.parts)?;
-    making.terminals.starts.append(&mut inlined.starts)?;
-    making.terminals.ends.append(&mut inlined.ends)?;
+    Ok(())
+}
+
+// Adds what stands for an instance.
+fn take_in(alloc: Global, making: &mut Making<'_>, inlined: Inlined) -> Result<(), NoMemory> {
+    let mut inlined = inlined;
+    add_copies(alloc, &mut making.moved, &inlined.parts)?;
+    making.flat.words.append(&mut inlined.words)?;
+    making.flat.parts.append(&mut inlined.parts)?;
+    take_terminals(&mut making.flat.terminals, inlined.terminals)
+}
+
+fn take_terminals(own: &mut Terminals, more: Terminals) -> Result<(), NoMemory> {
+    let mut more = more;
+    own.starts.append(&mut more.starts)?;
+    own.ends.append(&mut more.ends)?;
     Ok(())
 }
 

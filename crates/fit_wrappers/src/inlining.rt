@@ -1,8 +1,10 @@
 // What a module holds, in the place of an instance of it.
 use fit_items::{Direction, Instance, Run, name_at, tokens_of};
-use fit_library::{BlockStatement, Flat, Port, Scope, Source, Taken, Word, WordKind, push_fixed};
+use fit_library::{
+    BlockStatement, Flat, Port, Scope, Source, Taken, Terminals, Word, WordKind, push_assign,
+    push_fixed, push_range,
+};
 use indexmap::IndexMap;
-use itoa::Buffer;
 use sg_text::NoMemory;
 use std::alloc::{AllocError, AllocFailed, Global};
 use vl_token::{Mark, TokenKind};
@@ -12,8 +14,7 @@ use vl_token::{Mark, TokenKind};
 pub struct Inlined {
     pub words: Vec<Word>,
     pub parts: Vec<BlockStatement>,
-    pub starts: Vec<Vec<u8>>,
-    pub ends: Vec<Vec<u8>>,
+    pub terminals: Terminals,
 }
 
 /// The module that takes in what another holds.
@@ -150,6 +151,14 @@ fn has_pulses(parts: &[BlockStatement]) -> bool {
     })
 }
 
+// `INSTANCE$NAME`
+fn longer_name(alloc: Global, instance: &[u8], name: &[u8]) -> Result<Vec<u8>, NoMemory> {
+    let mut longer = Vec::from_slice(alloc, instance)?;
+    longer.push(b'$')?;
+    longer.extend_from_slice(name)?;
+    Ok(longer)
+}
+
 // The name of a net in the place of an instance: its own where that is free, else with the instance's before it.
 fn name_for(
     alloc: Global,
@@ -160,36 +169,12 @@ fn name_for(
     if taken.take(alloc, name)? {
         return Ok(Vec::from_slice(alloc, name)?);
     }
-    let mut longer = Vec::from_slice(alloc, instance)?;
-    longer.push(b'$')?;
-    longer.extend_from_slice(name)?;
+    let longer = longer_name(alloc, instance, name)?;
     if taken.take(alloc, &longer)? {
         Ok(longer)
     } else {
         Err(Stop::Stays)
     }
-}
-
-fn push_number(words: &mut Vec<Word>, alloc: Global, number: i64) -> Result<(), NoMemory> {
-    let mut buffer = Buffer::new();
-    words.push(Word::fixed(alloc, buffer.format(number).as_bytes(), false)?)?;
-    Ok(())
-}
-
-/// `[left:right]`, where there is a range.
-pub fn push_range(
-    alloc: Global,
-    words: &mut Vec<Word>,
-    range: Option<(i64, i64)>,
-) -> Result<(), NoMemory> {
-    let Some((left, right)) = range else {
-        return Ok(());
-    };
-    push_fixed(alloc, words, "[", true)?;
-    push_number(words, alloc, left)?;
-    push_fixed(alloc, words, ":", false)?;
-    push_number(words, alloc, right)?;
-    push_fixed(alloc, words, "]", false)
 }
 
 // `wire [range] name;`
@@ -205,26 +190,35 @@ fn push_wire(
     push_fixed(alloc, words, ";", false)
 }
 
-// The assignment between a port's new net and what the port is connected to.
-fn push_assign(
+// `assign NAME = VALUE;`
+fn push_assign_to(
     alloc: Global,
-    host: Host<'_, '_, '_>,
+    source: Source<'_, '_, '_>,
     words: &mut Vec<Word>,
-    port: &Port<'_>,
-    name: &[u8],
     value: Run,
+    name: &[u8],
 ) -> Result<(), NoMemory> {
     push_fixed(alloc, words, "assign", true)?;
-    if port.direction == Direction::Output {
-        host.source.push_run(alloc, words, value)?;
-        push_fixed(alloc, words, "=", true)?;
-        words.push(Word::name(alloc, name, true)?)?;
-    } else {
-        words.push(Word::name(alloc, name, true)?)?;
-        push_fixed(alloc, words, "=", true)?;
-        host.source.push_run(alloc, words, value)?;
-    }
+    words.push(Word::name(alloc, name, true)?)?;
+    push_fixed(alloc, words, "=", true)?;
+    source.push_run(alloc, words, value)?;
     push_fixed(alloc, words, ";", false)
+}
+
+// The assignment between a port's new net and what the port is connected to.
+fn push_join(
+    alloc: Global,
+    source: Source<'_, '_, '_>,
+    words: &mut Vec<Word>,
+    direction: Direction,
+    name: &[u8],
+    value: Run,
+) -> Result<(), Stop> {
+    match direction {
+        Direction::Output => Ok(push_assign(alloc, source, words, value, name)?),
+        Direction::Input => Ok(push_assign_to(alloc, source, words, value, name)?),
+        Direction::Inout => Err(Stop::Stays),
+    }
 }
 
 impl Binding {
@@ -251,10 +245,14 @@ impl Binding {
     ) -> Result<(), Stop> {
         push_wire(alloc, &mut self.words, &name, port.range)?;
         if let Some(value) = value {
-            if port.direction == Direction::Inout {
-                return Err(Stop::Stays);
-            }
-            push_assign(alloc, host, &mut self.words, port, &name, value)?;
+            push_join(
+                alloc,
+                host.source,
+                &mut self.words,
+                port.direction,
+                &name,
+                value,
+            )?;
         }
         self.stand(alloc, port.name, name, WordKind::Name)?;
         Ok(())
@@ -271,10 +269,7 @@ impl Binding {
         let Some(name) = word.as_name() else {
             return Ok(word.copy(alloc)?);
         };
-        if !self.stands.contains_key(name) {
-            let own = name_for(alloc, taken, instance, name)?;
-            self.stand(alloc, name, own, WordKind::Name)?;
-        }
+        self.add_stand(alloc, taken, instance, name)?;
         match self.stands.get(name) {
             Some(stand) => Ok(Word {
                 text: Vec::from_slice(alloc, &stand.text)?,
@@ -283,6 +278,21 @@ impl Binding {
             }),
             None => Err(Stop::Stays),
         }
+    }
+
+    // A net of its own for a name, where nothing stands for that yet.
+    fn add_stand(
+        &mut self,
+        alloc: Global,
+        taken: &mut Taken,
+        instance: &[u8],
+        name: &[u8],
+    ) -> Result<(), Stop> {
+        if self.stands.contains_key(name) {
+            return Ok(());
+        }
+        let own = name_for(alloc, taken, instance, name)?;
+        Ok(self.stand(alloc, name, own, WordKind::Name)?)
     }
 }
 
@@ -304,16 +314,36 @@ impl Placing<'_, '_, '_, '_> {
         place: usize,
         port: &Port<'_>,
     ) -> Result<(), Stop> {
-        let value = value_of(self.host, self.instance, place, port).filter(|run| !run.is_empty());
-        if let Some(run) = value {
-            if let Some(net) = whole_net(self.host, run, port) {
-                let text = Vec::from_slice(self.alloc, net)?;
-                return Ok(binding.stand(self.alloc, port.name, text, WordKind::Name)?);
-            }
-            if is_bit(self.host, run, port) && !is_specified(&self.flat.parts, port.name) {
-                return self.bind_constant(binding, port, run);
-            }
+        match value_of(self.host, self.instance, place, port) {
+            Some(run) if !run.is_empty() => self.bind_to(taken, binding, port, run),
+            _ => self.bind_new(taken, binding, port, None),
         }
+    }
+
+    fn bind_to(
+        &self,
+        taken: &mut Taken,
+        binding: &mut Binding,
+        port: &Port<'_>,
+        run: Run,
+    ) -> Result<(), Stop> {
+        if let Some(net) = whole_net(self.host, run, port) {
+            let text = Vec::from_slice(self.alloc, net)?;
+            return Ok(binding.stand(self.alloc, port.name, text, WordKind::Name)?);
+        }
+        if is_bit(self.host, run, port) && !is_specified(&self.flat.parts, port.name) {
+            return self.bind_constant(binding, port, run);
+        }
+        self.bind_new(taken, binding, port, Some(run))
+    }
+
+    fn bind_new(
+        &self,
+        taken: &mut Taken,
+        binding: &mut Binding,
+        port: &Port<'_>,
+        value: Option<Run>,
+    ) -> Result<(), Stop> {
         let name = name_for(self.alloc, taken, self.name, port.name)?;
         binding.bind_new(self.alloc, self.host, port, name, value)
     }
@@ -439,18 +469,23 @@ impl Placing<'_, '_, '_, '_> {
         if has_pulses(&self.flat.parts) && !self.keeps_names(&binding) {
             return Err(Stop::Stays);
         }
-        let starts = self.terminals(&binding, &self.flat.starts, Direction::Input)?;
-        let ends = self.terminals(&binding, &self.flat.ends, Direction::Output)?;
+        let terminals = self.all_terminals(&binding)?;
         let parts = self.renamed_parts(taken, &mut binding)?;
         let mut held = self.renamed(taken, &mut binding, &self.flat.words)?;
+        binding.words.append(&mut held)?;
         let Binding { words, .. } = binding;
-        let mut words = words;
-        words.append(&mut held)?;
         Ok(Inlined {
             words,
             parts,
-            starts,
-            ends,
+            terminals,
+        })
+    }
+
+    fn all_terminals(&self, binding: &Binding) -> Result<Terminals, Stop> {
+        let own = &self.flat.terminals;
+        Ok(Terminals {
+            starts: self.terminals(binding, &own.starts, Direction::Input)?,
+            ends: self.terminals(binding, &own.ends, Direction::Output)?,
         })
     }
 }

@@ -6,9 +6,10 @@ use fit_library::{Fates, Library, Spot, Unit, child_of, statement_of};
 use indexmap::IndexMap;
 use sg_text::NoMemory;
 use std::alloc::Global;
+use std::mem;
 
 /// What of a cell's checks a copy leaves out.
-#[derive(Clone, Copy, Debug, PartialEq, Eq)]
+#[derive(Clone, Copy, PartialEq, Eq)]
 pub enum Quiet {
     Nothing,
     Checks,
@@ -62,10 +63,10 @@ struct Node {
     turns: Vec<Turn>,
 }
 
-/// What is found: turns in modules that stand at one place alone, and the copies.
+/// What is found: turns in modules that stand at one place alone, by the numbers of these, and the copies.
 #[derive(Drop)]
 pub struct Walk {
-    pub turns: Vec<(usize, Turn)>,
+    pub turns: Vec<(usize, Vec<Turn>)>,
     pub twins: Vec<Twin>,
     /// The patterns that no instance has.
     pub unmet: Vec<Vec<u8>>,
@@ -298,15 +299,28 @@ impl<'t, 'a> Walker<'_, 't, 'a, '_> {
                 item: spot.item,
                 instance: number,
             };
-            let Some(name) = instance.name.and_then(|at| name_at(unit.part, at)) else {
-                continue;
-            };
             if self.fates.get(&own).is_none() && instance.range.is_empty() {
-                let path = self.path_of(node, name)?;
-                self.meet(node, own, child, path)?;
+                self.meet_one(node, own, unit, child, instance)?;
             }
         }
         Ok(())
+    }
+
+    fn meet_one(
+        &mut self,
+        node: usize,
+        spot: Spot,
+        unit: &Unit<'t, 'a>,
+        child: usize,
+        instance: &Instance,
+    ) -> Result<(), NoMemory> {
+        match instance.name.and_then(|at| name_at(unit.part, at)) {
+            Some(name) => {
+                let path = self.path_of(node, name)?;
+                self.meet(node, spot, child, path)
+            }
+            None => Ok(()),
+        }
     }
 
     fn path_of(&self, node: usize, name: &[u8]) -> Result<Vec<u8>, NoMemory> {
@@ -346,7 +360,7 @@ impl<'t, 'a> Walker<'_, 't, 'a, '_> {
     }
 
     // Settles a module at one place: it is changed itself where it stands there alone, else it is of a copy.
-    fn settle(&mut self, at: usize, found: &mut Vec<(usize, Turn)>) -> Result<(), NoMemory> {
+    fn settle(&mut self, at: usize, found: &mut Vec<(usize, Vec<Turn>)>) -> Result<(), NoMemory> {
         let Some(node) = self.nodes.pop() else {
             return Ok(());
         };
@@ -355,7 +369,9 @@ impl<'t, 'a> Walker<'_, 't, 'a, '_> {
         }
         let is_alone = self.counts.get(&node.unit).copied().unwrap_or(0) < 2;
         if at == 0 || is_alone {
-            add_found(found, node)
+            let Node { unit, turns, .. } = node;
+            found.push((unit, turns))?;
+            Ok(())
         } else {
             self.settle_copy(node)
         }
@@ -387,14 +403,6 @@ impl<'t, 'a> Walker<'_, 't, 'a, '_> {
     }
 }
 
-fn add_found(found: &mut Vec<(usize, Turn)>, node: Node) -> Result<(), NoMemory> {
-    let Node { unit, turns, .. } = node;
-    for turn in turns {
-        found.push((unit, turn))?;
-    }
-    Ok(())
-}
-
 impl Walker<'_, '_, '_, '_> {
     fn begin(&mut self, top: usize) -> Result<(), NoMemory> {
         self.nodes.push(Node {
@@ -409,7 +417,7 @@ impl Walker<'_, '_, '_, '_> {
     }
 
     // The turns of all modules from the top on that stand at one place alone.
-    fn turns_below(&mut self, top: usize) -> Result<Vec<(usize, Turn)>, NoMemory> {
+    fn turns_below(&mut self, top: usize) -> Result<Vec<(usize, Vec<Turn>)>, NoMemory> {
         self.begin(top)?;
         self.expand_all()?;
         self.settle_all()
@@ -444,7 +452,7 @@ impl Walker<'_, '_, '_, '_> {
     }
 
     // Those below come first.
-    fn settle_all(&mut self) -> Result<Vec<(usize, Turn)>, NoMemory> {
+    fn settle_all(&mut self) -> Result<Vec<(usize, Vec<Turn>)>, NoMemory> {
         let mut turns = Vec::new(self.alloc);
         for _ in 0..usize::MAX {
             let Some(at) = self.nodes.len().checked_sub(1) else {
@@ -462,12 +470,17 @@ fn key_of(alloc: Global, unit: usize, quiet: Quiet, turns: &[Turn]) -> Result<Ve
     key.extend_from_slice(&(unit as u64).to_be_bytes())?;
     key.extend_from_slice(quiet.suffix())?;
     for turn in turns {
-        key.extend_from_slice(&(turn.item as u64).to_be_bytes())?;
-        key.extend_from_slice(&(turn.instance as u64).to_be_bytes())?;
-        key.extend_from_slice(&turn.module)?;
-        key.push(0)?;
+        push_turn(&mut key, turn)?;
     }
     Ok(key)
+}
+
+fn push_turn(key: &mut Vec<u8>, turn: &Turn) -> Result<(), NoMemory> {
+    key.extend_from_slice(&(turn.item as u64).to_be_bytes())?;
+    key.extend_from_slice(&(turn.instance as u64).to_be_bytes())?;
+    key.extend_from_slice(&turn.module)?;
+    key.push(0)?;
+    Ok(())
 }
 
 // `__a__b` of the path `a.b`. Takes memory.
@@ -531,7 +544,7 @@ pub fn walk_below<'a>(
     };
     let turns = walker.turns_below(top)?;
     let unmet = walker.unmet()?;
-    let Walker { twins, .. } = walker;
+    let twins = mem::replace(&mut walker.twins, Vec::new(alloc));
     Ok(Walk {
         turns,
         twins,

@@ -2,7 +2,7 @@
 use crate::walking::{Quiet, Turn, Twin};
 use fit_items::{Instance, Item, ItemKind, Module, Run, SpecifyPart};
 use fit_library::{
-    BlockStatement, Fate, Fates, Source, Spot, Unit, Word, block_statement_of,
+    BlockStatement, Fate, Fates, Source, Spot, Unit, Word, block_statement_of, copy_words,
     push_block_statement, push_fate, push_fixed, push_fixed_name, push_instance, run_of_token,
     statement_of,
 };
@@ -34,6 +34,27 @@ fn has_delayed(arguments: &[Vec<Word>]) -> bool {
     arguments.iter().skip(7).any(|words| !words.is_empty())
 }
 
+fn zero(alloc: Global) -> Result<Vec<Word>, NoMemory> {
+    let mut words = Vec::new(alloc);
+    push_fixed(alloc, &mut words, "0", true)?;
+    Ok(words)
+}
+
+// An argument in a copy: none at a place, and with zeros a 0 for each limit.
+fn argument_in_copy(
+    alloc: Global,
+    argument: &[Word],
+    number: usize,
+    place: usize,
+    zeros: bool,
+) -> Result<Vec<Word>, NoMemory> {
+    match number {
+        2 | 3 if zeros => zero(alloc),
+        _ if number == place => Ok(Vec::new(alloc)),
+        _ => copy_words(alloc, argument),
+    }
+}
+
 // Copies of the arguments but for one. Takes memory.
 fn without(
     alloc: Global,
@@ -43,15 +64,7 @@ fn without(
 ) -> Result<Vec<Vec<Word>>, NoMemory> {
     let mut list = Vec::new(alloc);
     for (number, argument) in arguments.iter().enumerate() {
-        let mut words = Vec::new(alloc);
-        if zeros && (number == 2 || number == 3) {
-            push_fixed(alloc, &mut words, "0", true)?;
-        } else if number != place {
-            for word in argument {
-                words.push(word.copy(alloc)?)?;
-            }
-        }
-        list.push(words)?;
+        list.push(argument_in_copy(alloc, argument, number, place, zeros)?)?;
     }
     Ok(list)
 }
@@ -91,18 +104,25 @@ impl Copying<'_, '_, '_> {
         arguments: &[Vec<Word>],
         words: &mut Vec<Word>,
     ) -> Result<(), NoMemory> {
-        let is_delayed = has_delayed(arguments);
         let zeros = self.twin.quiet == Quiet::Checks;
-        if zeros && !is_delayed {
+        if zeros && !has_delayed(arguments) {
             return Ok(());
         }
-        let place = notifier_place(&word.text);
-        let arguments = trimmed(without(self.alloc, arguments, place, zeros)?);
-        let check = BlockStatement::Check {
-            word: word.copy(self.alloc)?,
-            arguments,
-        };
+        let check = self.quiet_check(word, arguments, zeros)?;
         push_block_statement(self.alloc, words, &check)
+    }
+
+    fn quiet_check(
+        &self,
+        word: &Word,
+        arguments: &[Vec<Word>],
+        zeros: bool,
+    ) -> Result<BlockStatement, NoMemory> {
+        let place = notifier_place(&word.text);
+        Ok(BlockStatement::Check {
+            word: word.copy(self.alloc)?,
+            arguments: trimmed(without(self.alloc, arguments, place, zeros)?),
+        })
     }
 
     fn push_quiet(&self, part: &BlockStatement, words: &mut Vec<Word>) -> Result<(), NoMemory> {
@@ -130,14 +150,19 @@ impl Copying<'_, '_, '_> {
         words: &mut Vec<Word>,
     ) -> Result<(), NoMemory> {
         push_fixed(self.alloc, words, "specify", true)?;
-        for statement in parts {
-            let part = block_statement_of(self.alloc, self.source, statement)?;
-            self.push_quiet(&part, words)?;
-        }
+        self.push_parts(parts, words)?;
         if with_moved {
             self.push_moved(words)?;
         }
         push_fixed(self.alloc, words, "endspecify", true)
+    }
+
+    fn push_parts(&self, parts: &[SpecifyPart], words: &mut Vec<Word>) -> Result<(), NoMemory> {
+        for statement in parts {
+            let part = block_statement_of(self.alloc, self.source, statement)?;
+            self.push_quiet(&part, words)?;
+        }
+        Ok(())
     }
 
     fn push_instance_of(
@@ -186,33 +211,47 @@ impl Copying<'_, '_, '_> {
         }
     }
 
+    // What stands before a module's statements, up to its name.
+    fn push_front(&self, words: &mut Vec<Word>) -> Result<(), NoMemory> {
+        push_fixed(self.alloc, words, " ", false)?;
+        self.source.push_run(self.alloc, words, run_of_token(0))?;
+        push_fixed_name(self.alloc, words, &self.twin.name, true)
+    }
+
+    // The statements, and what stands before each. Gives the place behind the last.
+    fn push_items(&self, module: &Module, words: &mut Vec<Word>) -> Result<usize, NoMemory> {
+        let block = module.items.iter().position(|item| is_block(item));
+        let mut first = module.name.saturating_add(1);
+        for (place, item) in module.items.iter().enumerate() {
+            let end = item.whole.first;
+            self.source.push_run(self.alloc, words, Run { first, end })?;
+            self.push_item(place, item, block == Some(place), words)?;
+            first = item.whole.end;
+        }
+        Ok(first)
+    }
+
+    // What moved here, as a block of its own.
+    fn push_own_block(&self, words: &mut Vec<Word>) -> Result<(), NoMemory> {
+        if self.moved.is_some_and(|parts| !parts.is_empty()) {
+            self.push_block(&[], true, words)?;
+        }
+        Ok(())
+    }
+
     // The copy of a module, as words on one line. Takes memory.
     fn words_of(&self, module: &Module) -> Result<Vec<Word>, NoMemory> {
         let mut words = Vec::new(self.alloc);
-        push_fixed(self.alloc, &mut words, " ", false)?;
+        self.push_front(&mut words)?;
+        let first = self.push_items(module, &mut words)?;
+        let end = self.source.part.len().saturating_sub(1);
         self.source
-            .push_run(self.alloc, &mut words, run_of_token(0))?;
-        push_fixed_name(self.alloc, &mut words, &self.twin.name, true)?;
-        let mut first = module.name.saturating_add(1);
-        let mut has_block = false;
-        for (place, item) in module.items.iter().enumerate() {
-            let end = item.whole.first;
-            self.source
-                .push_run(self.alloc, &mut words, Run { first, end })?;
-            self.push_item(place, item, !has_block, &mut words)?;
-            has_block = has_block || is_block(item);
-            first = item.whole.end;
-        }
-        let last = self.source.part.len().saturating_sub(1);
-        self.source
-            .push_run(self.alloc, &mut words, Run { first, end: last })?;
-        if !has_block && self.moved.is_some_and(|parts| !parts.is_empty()) {
-            push_fixed(self.alloc, &mut words, "specify", true)?;
-            self.push_moved(&mut words)?;
-            push_fixed(self.alloc, &mut words, "endspecify", true)?;
+            .push_run(self.alloc, &mut words, Run { first, end })?;
+        if !module.items.iter().any(|item| is_block(item)) {
+            self.push_own_block(&mut words)?;
         }
         self.source
-            .push_run(self.alloc, &mut words, run_of_token(last))?;
+            .push_run(self.alloc, &mut words, run_of_token(end))?;
         Ok(words)
     }
 }

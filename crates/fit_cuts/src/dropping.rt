@@ -1,7 +1,8 @@
 // Instances that go: of cells that are named, and of modules without a text that have supplies alone.
 use fit_changes::{Changes, Rule};
 use fit_items::{
-    Instance, Item, ItemKind, Module, Run, Wishes, is_keyword, name_at, name_of, tokens_of,
+    Declared, HeadPort, Instance, Item, ItemKind, Module, Run, Wishes, is_keyword, name_at,
+    name_of, tokens_of,
 };
 use fit_library::{
     Fate, Fates, Library, Source, Spot, Statement, Unit, span_of_run, statement_of, told_of,
@@ -47,17 +48,36 @@ fn supplies_of<'a>(
 ) -> Result<IndexSet<&'a [u8]>, NoMemory> {
     let mut supplies = IndexSet::new(alloc);
     for item in &module.items {
-        if let ItemKind::Nets { word, names, .. } = &item.kind {
-            if is_supply_word(part, *word) {
-                for declared in names {
-                    if let Some(name) = name_at(part, declared.name) {
-                        supplies.insert(name)?;
-                    }
-                }
+        match &item.kind {
+            ItemKind::Nets { word, names, .. } if is_supply_word(part, *word) => {
+                add_declared(part, names, &mut supplies)?
             }
+            _ => {}
         }
     }
-    for port in &module.head {
+    add_powers(part, &module.head, &mut supplies)?;
+    Ok(supplies)
+}
+
+fn add_declared<'a>(
+    part: &[Token<'a>],
+    names: &[Declared],
+    supplies: &mut IndexSet<&'a [u8]>,
+) -> Result<(), NoMemory> {
+    for declared in names {
+        if let Some(name) = name_at(part, declared.name) {
+            supplies.insert(name)?;
+        }
+    }
+    Ok(())
+}
+
+fn add_powers<'a>(
+    part: &[Token<'a>],
+    ports: &[HeadPort],
+    supplies: &mut IndexSet<&'a [u8]>,
+) -> Result<(), NoMemory> {
+    for port in ports {
         match name_at(part, port.name) {
             Some(name) if is_power(name) => {
                 supplies.insert(name)?;
@@ -65,7 +85,7 @@ fn supplies_of<'a>(
             _ => {}
         }
     }
-    Ok(supplies)
+    Ok(())
 }
 
 /// Looks for instances that go.

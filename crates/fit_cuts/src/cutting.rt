@@ -1,13 +1,12 @@
 // Instances of the top that are cut out: what they drive becomes inputs of the top.
-use crate::inlining::push_range;
 use fit_changes::{Changes, Rule};
 use fit_items::{
     Connection, Direction, Instance, Module, Run, comma_pieces, is_symbol, name_at, pieces_between,
     tokens_of, whole_number,
 };
 use fit_library::{
-    Fate, Fates, Library, Scope, Source, Spot, Statement, Unit, UnitKind, Word, push_fixed,
-    scope_of, span_of_run, statement_of, told_of,
+    Fate, Fates, Library, Scope, Source, Spot, Statement, Unit, UnitKind, Word, push_assign,
+    push_range, scope_of, span_of_run, statement_of, told_of,
 };
 use indexmap::IndexMap;
 use itoa::Buffer;
@@ -91,6 +90,18 @@ fn direction_in(
 
 fn range_between(left: i64, right: i64) -> u64 {
     left.abs_diff(right).saturating_add(1)
+}
+
+fn width_between(left: Option<i64>, right: Option<i64>) -> Option<u64> {
+    Some(range_between(left?, right?))
+}
+
+// Adds `_N`.
+fn push_suffix(name: &mut Vec<u8>, number: usize) -> Result<(), NoMemory> {
+    let mut buffer = Buffer::new();
+    name.push(b'_')?;
+    name.extend_from_slice(buffer.format(number as u64).as_bytes())?;
+    Ok(())
 }
 
 impl Cutting<'_, '_, '_> {
@@ -190,20 +201,18 @@ impl Cutting<'_, '_, '_> {
             return Ok(false);
         }
         if !cuts.inputs.contains_key(name) {
-            let range = match self.scope.nets.get(name) {
-                Some(Some((left, right))) => self.range_words(left, right)?,
-                _ => Vec::new(self.alloc),
-            };
             let key = Vec::from_slice(self.alloc, name)?;
-            cuts.inputs.insert(
-                key,
-                Input {
-                    range,
-                    is_net: true,
-                },
-            )?;
+            self.add_input(key, self.range_of(name)?, true, cuts)?;
         }
         Ok(true)
+    }
+
+    // The range of a net, as it is declared.
+    fn range_of(&self, name: &[u8]) -> Result<Vec<Word>, NoMemory> {
+        match self.scope.nets.get(name) {
+            Some(Some((left, right))) => self.range_words(left, right),
+            _ => Ok(Vec::new(self.alloc)),
+        }
     }
 
     fn is_ranged_or_bit(&self, name: &[u8]) -> bool {
@@ -225,16 +234,19 @@ impl Cutting<'_, '_, '_> {
         }
     }
 
+    fn net_width(&self, name: &[u8]) -> Option<u64> {
+        match self.scope.nets.get(name)? {
+            Some((left, right)) => Some(range_between(left, right)),
+            None => Some(1),
+        }
+    }
+
     // How many bits a port, or a select of a net, has.
     fn width_of(&self, piece: Run) -> Result<Option<u64>, NoMemory> {
         let part = self.source.part;
         match tokens_of(part, piece) {
             [token] => match token.kind {
-                TokenKind::Name(name) => Ok(match self.scope.nets.get(name) {
-                    Some(Some((left, right))) => Some(range_between(left, right)),
-                    Some(None) => Some(1),
-                    None => None,
-                }),
+                TokenKind::Name(name) => Ok(self.net_width(name)),
                 _ => Ok(None),
             },
             [_, open, _, .., _] if is_symbol(open, Symbol::LeftBracket) => {
@@ -253,10 +265,10 @@ impl Cutting<'_, '_, '_> {
         let pieces = pieces_between(self.alloc, part, inner, Symbol::Colon)?;
         match pieces.as_slice() {
             [_] => Ok(Some(1)),
-            [left, right] => match (whole_number(part, *left), whole_number(part, *right)) {
-                (Some(left), Some(right)) => Ok(Some(range_between(left, right))),
-                _ => Ok(None),
-            },
+            [left, right] => Ok(width_between(
+                whole_number(part, *left),
+                whole_number(part, *right),
+            )),
             _ => Ok(None),
         }
     }
@@ -276,20 +288,9 @@ impl Cutting<'_, '_, '_> {
             &[own.unwrap_or(b""), b"__", port.unwrap_or(b"out")],
         )?;
         if let Some(number) = suffix {
-            let mut buffer = Buffer::new();
-            name.push(b'_')?;
-            name.extend_from_slice(buffer.format(number as u64).as_bytes())?;
+            push_suffix(&mut name, number)?;
         }
         Ok(name)
-    }
-
-    // `assign PIECE = NAME;`
-    fn push_assign(&self, piece: Run, name: &[u8], words: &mut Vec<Word>) -> Result<(), NoMemory> {
-        push_fixed(self.alloc, words, "assign", true)?;
-        self.source.push_run(self.alloc, words, piece)?;
-        push_fixed(self.alloc, words, "=", true)?;
-        words.push(Word::name(self.alloc, name, true)?)?;
-        push_fixed(self.alloc, words, ";", false)
     }
 
     // A new input, and the assignment of it.
@@ -303,14 +304,26 @@ impl Cutting<'_, '_, '_> {
         words: &mut Vec<Word>,
     ) -> Result<(), NoMemory> {
         let name = self.input_name(instance, connection, suffix)?;
-        let Some(width) = self.width_of(piece)? else {
-            cuts.unfit
-                .push(kind_of(self.alloc, &[b"NoWidth ", &name])?)?;
-            return Ok(());
-        };
-        self.push_assign(piece, &name, words)?;
-        let range = self.range_for(width)?;
-        let is_net = false;
+        match self.width_of(piece)? {
+            Some(width) => {
+                push_assign(self.alloc, self.source, words, piece, &name)?;
+                self.add_input(name, self.range_for(width)?, false, cuts)
+            }
+            None => {
+                cuts.unfit
+                    .push(kind_of(self.alloc, &[b"NoWidth ", &name])?)?;
+                Ok(())
+            }
+        }
+    }
+
+    fn add_input(
+        &self,
+        name: Vec<u8>,
+        range: Vec<Word>,
+        is_net: bool,
+        cuts: &mut Cuts,
+    ) -> Result<(), NoMemory> {
         cuts.inputs.insert(name, Input { range, is_net })?;
         Ok(())
     }
