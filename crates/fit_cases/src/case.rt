@@ -3,28 +3,28 @@ use fit_top::{MemoryFolders, Status, top};
 use sg_io::{MemoryShelf, MemorySink};
 use std::alloc::Global;
 
-#[derive(Debug, Drop)]
+#[derive(Drop)]
 struct File {
     name: String,
     text: String,
 }
 
 // A call that fails, by its number, and how many bytes it takes before.
-#[derive(Clone, Copy, Debug)]
+#[derive(Clone, Copy)]
 struct Failing {
     call: u64,
     taken: u64,
 }
 
 // Two names that reach one file.
-#[derive(Debug, Drop)]
+#[derive(Drop)]
 struct Pair {
     one: String,
     other: String,
 }
 
 /// Files, words, what fails, and the names of the files that are shown.
-#[derive(Debug, Drop)]
+#[derive(Drop)]
 pub struct Case {
     title: String,
     files: Vec<File>,
